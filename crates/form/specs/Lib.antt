@@ -1,0 +1,1 @@
+-- The trusted definitions of the lower layer.

@@ -1,0 +1,1 @@
+-- The laws that the crates above share; nothing of forms.

@@ -1,0 +1,1 @@
+// Mathematics only: no function stands here. The laws are in specs/.
