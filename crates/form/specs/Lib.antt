@@ -1,1 +1,3 @@
 -- The trusted definitions of the lower layer.
+pub mod Form
+pub mod Records

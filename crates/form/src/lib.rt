@@ -1,4 +1,13 @@
-// The order form of document 01: the structs of a body, by value.
+// The order form of document 01: the structs of a body, by value; the reader and the writer. Every call answers for all bytes and all
+// bodies. The meaning of each is in specs/Form.antt; the mathematics that proofs share is in specs/ and in the crate laws.
+ghost use mathlib.Core.Path.{_≡_};
+ghost use mathlib.Core.Bool.{_&&_, _||_, not};
+ghost use Prim.Native.Nat.{ℕ, _+_, _-_, _<_, _≤_, _^_};
+ghost use lib.Dec.{ltb, leb, eqb};
+ghost use lib.ListN.{length};
+ghost use mir.Syntax.{w32};
+ghost use mir.Val.{toZ, ofZ};
+ghost use Rattle.form.specs.Form.{when, oneIf, byteAt, number2, number4, recordLength, recordsFrom, stray, someTarget, badCounter, badWays, badBlock, badEffect, badField, badTarget, outOfPlace, overLimit, payloadFault, recordFault, endFault, judgeEnds, judge};
 
 // The counter: what a kind 1 record holds.
 pub struct Counter {
@@ -17,7 +26,7 @@ pub struct Block {
     pub variable: u8,
     pub relation: u8,
     pub constant: i32,
-    pub effects: u16,
+    pub effects: usize,
 }
 
 // An effect: what a kind 3 record holds.
@@ -41,4 +50,232 @@ pub struct Body {
 pub enum Verdict {
     Accepted,
     Refused { number: u32, place: usize },
+}
+
+// The byte at i, 0 past the end.
+fn byte_at(s: &[u8], i: usize) -> u8
+    ensures { λ r. ⌜ r ≡ byteAt (now (s .entry)) i ⌝ }
+{
+    if i < s.len() { s[i] } else { 0 }
+}
+
+fn wide(x: u8) -> u32
+    ensures { λ r. ⌜ r ≡ x ⌝ }
+{
+    x as u32
+}
+
+// The two bytes from i on as a number.
+fn short_at(s: &[u8], i: usize) -> u32
+    requires { ⌜ i + 4 < 2 ^ 64 ⌝ }
+    ensures { λ r. ⌜ (r ≡ number2 (now (s .entry)) i) × (r < 65536) ⌝ }
+{
+    wide(byte_at(s, i)) + 256 * wide(byte_at(s, i + 1))
+}
+
+// The four bytes from i on as a number.
+fn long_at(s: &[u8], i: usize) -> u32
+    requires { ⌜ i + 8 < 2 ^ 64 ⌝ }
+    ensures { λ r. ⌜ r ≡ number4 (now (s .entry)) i ⌝ }
+{
+    short_at(s, i) + 65536 * short_at(s, i + 2)
+}
+
+// The length of a record of a kind.
+fn record_length(kind: u32) -> u32
+    ensures { λ r. ⌜ (r ≡ recordLength kind) × ((0 < r) × (r ≤ 17)) ⌝ }
+{
+    if kind == 3 {
+        return 10;
+    }
+    if (kind == 1) | (kind == 2) { 17 } else { 4 }
+}
+
+// The number where the test holds, else the rest.
+fn refuse_if(test: bool, number: u32, rest: u32) -> u32
+    ensures { λ r. ⌜ r ≡ when test number rest ⌝ }
+{
+    if test { number } else { rest }
+}
+
+fn one_if(test: bool) -> usize
+    ensures { λ r. ⌜ r ≡ oneIf test ⌝ }
+{
+    if test { 1 } else { 0 }
+}
+
+fn is_stray(first: u8, ending: u8, x: u32) -> bool
+    ensures { λ r. ⌜ r ≡ stray first ending x ⌝ }
+{
+    (ending < first) & (0 < x)
+}
+
+fn some_target(ending: u8, jump: bool, fall: bool) -> bool
+    ensures { λ r. ⌜ r ≡ someTarget ending jump fall ⌝ }
+{
+    ((0 < ending) & jump) | ((1 < ending) & fall)
+}
+
+fn bad_ways(ending: u8, jump: u8, fall: u8, variable: u8, relation: u8, constant: u32) -> bool
+    ensures { λ r. ⌜ r ≡ badWays ending jump fall variable relation constant ⌝ }
+{
+    (is_stray(1, ending, wide(jump)) | is_stray(2, ending, wide(fall)))
+        | (is_stray(3, ending, wide(variable)) | (is_stray(3, ending, wide(relation)) | is_stray(3, ending, constant)))
+}
+
+fn bad_block(s: &[u8], at: usize) -> bool
+    requires { ⌜ at + 32 < 2 ^ 64 ⌝ }
+    ensures { λ r. ⌜ r ≡ badBlock (now (s .entry)) at ⌝ }
+{
+    let ending = byte_at(s, at + 8);
+    let jump = byte_at(s, at + 9);
+    let fall = byte_at(s, at + 10);
+    let variable = byte_at(s, at + 11);
+    let relation = byte_at(s, at + 12);
+    let cost = long_at(s, at + 4);
+    let constant = long_at(s, at + 13);
+    let ways = bad_ways(ending, jump, fall, variable, relation, constant);
+    ((1000000 < cost) | ((3 < ending) | ((15 < variable) | (5 < relation)))) | ways
+}
+
+fn bad_effect(s: &[u8], at: usize) -> bool
+    requires { ⌜ at + 32 < 2 ^ 64 ⌝ }
+    ensures { λ r. ⌜ r ≡ badEffect (now (s .entry)) at ⌝ }
+{
+    let variable = byte_at(s, at + 4);
+    let how = byte_at(s, at + 5);
+    let unused = is_stray(1, how, long_at(s, at + 6));
+    (15 < variable) | ((1 < how) | unused)
+}
+
+// 15: a field out of range, or unused and not zero.
+fn bad_field(s: &[u8], at: usize) -> bool
+    requires { ⌜ at + 32 < 2 ^ 64 ⌝ }
+    ensures { λ r. ⌜ r ≡ badField (now (s .entry)) at ⌝ }
+{
+    let kind = short_at(s, at + 2);
+    let relation = byte_at(s, at + 12);
+    let block = bad_block(s, at);
+    let effect = bad_effect(s, at);
+    ((kind == 1) & (5 < relation)) | (((kind == 2) & block) | ((kind == 3) & effect))
+}
+
+// 16: a used target not above its block.
+fn bad_target(s: &[u8], at: usize, b: usize) -> bool
+    requires { ⌜ at + 32 < 2 ^ 64 ⌝ }
+    ensures { λ r. ⌜ r ≡ badTarget (now (s .entry)) at b ⌝ }
+{
+    let kind = short_at(s, at + 2);
+    let jump = byte_at(s, at + 9) as usize;
+    let fall = byte_at(s, at + 10) as usize;
+    let low = some_target(byte_at(s, at + 8), jump <= b, fall <= b);
+    (kind == 2) & low
+}
+
+// 13: the first record no counter, a later counter, or an effect before any block.
+fn out_of_place(s: &[u8], at: usize, b: usize) -> bool
+    requires { ⌜ at + 32 < 2 ^ 64 ⌝ }
+    ensures { λ r. ⌜ r ≡ outOfPlace (now (s .entry)) at b ⌝ }
+{
+    let kind = short_at(s, at + 2);
+    ((at == 0) & !(kind == 1)) | (((0 < at) & (kind == 1)) | ((kind == 3) & (b == 0)))
+}
+
+// 14: the 65th block or the 257th effect.
+fn over_limit(s: &[u8], at: usize, b: usize, e: usize) -> bool
+    requires { ⌜ at + 32 < 2 ^ 64 ⌝ }
+    ensures { λ r. ⌜ r ≡ overLimit (now (s .entry)) at b e ⌝ }
+{
+    let kind = short_at(s, at + 2);
+    ((kind == 2) & (64 <= b)) | ((kind == 3) & (256 <= e))
+}
+
+// 13 to 16 of the record at `at`, with b blocks and e effects before it; 0 if none applies.
+fn payload_fault(s: &[u8], at: usize, b: usize, e: usize) -> u32
+    requires { ⌜ at + 32 < 2 ^ 64 ⌝ }
+    ensures { λ r. ⌜ r ≡ payloadFault (now (s .entry)) at b e ⌝ }
+{
+    let target = refuse_if(bad_target(s, at, b), 16, 0);
+    let field = refuse_if(bad_field(s, at), 15, target);
+    let limit = refuse_if(over_limit(s, at, b, e), 14, field);
+    refuse_if(out_of_place(s, at, b), 13, limit)
+}
+
+// What is wrong with the record at `at`, with b blocks and e effects before it; 0 if nothing.
+fn record_fault(s: &[u8], at: usize, b: usize, e: usize) -> u32
+    requires { ⌜ (at < length (now s)) × (at + 32 < 2 ^ 64) ⌝ }
+    ensures { λ r. ⌜ r ≡ recordFault (now (s .entry)) at b e ⌝ }
+{
+    let left = s.len() - at;
+    let length = short_at(s, at);
+    let kind = short_at(s, at + 2);
+    let unknown = !((kind == 1) | ((kind == 2) | (kind == 3)));
+    let beyond = refuse_if(left < length as usize, 10, payload_fault(s, at, b, e));
+    let wrong = refuse_if(!(length == record_length(kind)), 11, beyond);
+    refuse_if(left < 4, 10, refuse_if(unknown, 12, wrong))
+}
+
+// What is wrong with the block at `at`, number k of n; 0 if nothing.
+fn end_fault(s: &[u8], at: usize, n: usize, k: usize) -> u32
+    requires { ⌜ (at + 32 < 2 ^ 64) × (k + 1 < 2 ^ 64) ⌝ }
+    ensures { λ r. ⌜ r ≡ endFault (now (s .entry)) at n k ⌝ }
+{
+    let ending = byte_at(s, at + 8);
+    let jump = byte_at(s, at + 9) as usize;
+    let fall = byte_at(s, at + 10) as usize;
+    let next = k + 1;
+    let end = ((next < n) & (ending == 0)) | ((n <= next) & (0 < ending));
+    refuse_if(end, 18, refuse_if(some_target(ending, n <= jump, n <= fall), 19, 0))
+}
+
+// 18 and 19, block by block of the n.
+fn judge_ends(s: &[u8], n: usize) -> Verdict
+    ensures { λ r. ⌜ r ≡ judgeEnds (now (s .entry)) n (recordsFrom (now (s .entry)) 0) 0 ⌝ }
+{
+    let mut at = 0;
+    let mut k = 0;
+    while at < s.len() {
+        let kind = short_at(s, at + 2);
+        if kind == 2 {
+            let fault = end_fault(s, at, n, k);
+            if fault != 0 {
+                return Verdict::Refused {
+                    number: fault,
+                    place: at,
+                };
+            }
+            k += 1;
+        }
+        at += record_length(kind) as usize;
+    }
+    Verdict::Accepted
+}
+
+// What the reader says of any bytes: 10 to 19 with its place, or accepted.
+pub fn judge(s: &[u8]) -> Verdict
+    ensures { λ r. ⌜ r ≡ judge (now (s .entry)) ⌝ }
+{
+    let mut at = 0;
+    let mut b = 0;
+    let mut e = 0;
+    while at < s.len() {
+        let fault = record_fault(s, at, b, e);
+        if fault != 0 {
+            return Verdict::Refused {
+                number: fault,
+                place: at,
+            };
+        }
+        let kind = short_at(s, at + 2);
+        b += one_if(kind == 2);
+        e += one_if(kind == 3);
+        at += record_length(kind) as usize;
+    }
+    if b == 0 {
+        return Verdict::Refused {
+            number: 17,
+            place: s.len(),
+        };
+    }
+    judge_ends(s, b)
 }

@@ -1,0 +1,63 @@
+-- Laws of the records of a form: from each place the records are the one that starts there and those after it, up to the end.
+-- Rests on Form alone.
+use mathlib.Core.Bool.{Bool, true, false}
+use mathlib.Core.List.{List, [], _∷_}
+use mathlib.Core.Path.{_≡_, refl, ap, sym, _∙_}
+use Prim.Native.Nat.{ℕ, zero, suc, _+_, _≤_, _<_}
+use native.Mathlib.Omega.{arith}
+use borrow.Author.Tests.{lt-ltb, le-ltb, ltb-true, ltb-false}
+use lib.Dec.{ltb, eqb}
+use lib.ListN.{length}
+use Rattle.form.specs.Form.{when, kindAt, recordLength, startsFor, recordsFrom}
+
+-- where the record at `at` ends
+abbrev pub next : List ℕ → ℕ → ℕ
+next s at = at + recordLength (kindAt s at)
+
+pub recordLength-pos : (kind : ℕ) → 0 < recordLength kind
+unfolding recordLength
+recordLength-pos kind = cases (eqb kind 3) (eqb kind 1) (eqb kind 2)
+  where
+    cases : (a b c : Bool) → 0 < when a 10 (when (mathlib.Core.Bool._||_ b c) 17 4)
+    cases true b c = omega arith
+    cases false true c = omega arith
+    cases false false true = omega arith
+    cases false false false = omega arith
+
+pub next-above : (s : List ℕ) (at : ℕ) → at < next s at
+next-above s at = omega (arith, recordLength-pos (kindAt s at))
+
+starts-end : (most : ℕ) (s : List ℕ) (at : ℕ) → length s ≤ at → startsFor most s at ≡ []
+unfolding startsFor
+starts-end zero s at h = refl
+starts-end (suc most) s at h = rw (le-ltb at (length s) h)
+
+starts-step : (most : ℕ) (s : List ℕ) (at : ℕ) → at < length s → startsFor (suc most) s at ≡ at ∷ startsFor most s (next s at)
+unfolding startsFor
+starts-step most s at h = rw (lt-ltb at (length s) h)
+
+-- enough is enough
+starts-enough :
+    (f g : ℕ) (s : List ℕ) (at : ℕ) → length s ≤ at + f → length s ≤ at + g → startsFor f s at ≡ startsFor g s at
+starts-enough zero g s at p q = starts-end zero s at (omega arith) ∙ sym (starts-end g s at (omega arith))
+starts-enough (suc f) zero s at p q = starts-end (suc f) s at (omega arith) ∙ sym (starts-end zero s at (omega arith))
+starts-enough (suc f) (suc g) s at p q =
+    go (ltb at (length s)) refl (starts-enough f g s (next s at) (further f p) (further g q))
+  where
+    further : (m : ℕ) → length s ≤ at + suc m → length s ≤ next s at + m
+    further m h = omega (arith, next-above s at)
+    go :
+        (b : Bool) → ltb at (length s) ≡ b → startsFor f s (next s at) ≡ startsFor g s (next s at)
+        → startsFor (suc f) s at ≡ startsFor (suc g) s at
+    go true e ih =
+        starts-step f s at (ltb-true _ _ e) ∙ (ap (λ (l : List ℕ). at ∷ l) ih ∙ sym (starts-step g s at (ltb-true _ _ e)))
+    go false e ih = starts-end (suc f) s at (ltb-false _ _ e) ∙ sym (starts-end (suc g) s at (ltb-false _ _ e))
+
+pub records-end : (s : List ℕ) (at : ℕ) → length s ≤ at → recordsFrom s at ≡ []
+unfolding recordsFrom
+records-end s at h = starts-end (length s) s at h
+
+pub records-step : (s : List ℕ) (at : ℕ) → at < length s → recordsFrom s at ≡ at ∷ recordsFrom s (next s at)
+unfolding recordsFrom
+records-step s at h =
+    starts-enough (length s) (suc (length s)) s at (omega arith) (omega arith) ∙ starts-step (length s) s at h
