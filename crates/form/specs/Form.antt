@@ -123,12 +123,11 @@ recordFault s at b e =
     (when (not (eqb (lengthAt s at) (recordLength (kindAt s at)))) 11
     (when (ltb (length s - at) (lengthAt s at)) 10 (payloadFault s at b e))))
 
--- What is wrong with the block at `at`, number k of n: an earlier block ends or the last does not; a used target beyond the last block
+-- What is wrong with a block at `at`, number k of n: an earlier block ends or the last does not; a used target beyond the last block
 unfoldable pub endFault : List ℕ → ℕ → ℕ → ℕ → ℕ
 endFault s at n k =
-    when ((ltb (k + 1) n && eqb (byteAt s (at + 8)) 0) || (leb n (k + 1) && ltb 0 (byteAt s (at + 8)))) 18
-    (when (someTarget (byteAt s (at + 8)) (leb n (byteAt s (at + 9))) (leb n (byteAt s (at + 10)))) 19
-    0)
+    when (isBlock s at && ((ltb (k + 1) n && eqb (byteAt s (at + 8)) 0) || (leb n (k + 1) && ltb 0 (byteAt s (at + 8))))) 18
+    (when (isBlock s at && someTarget (byteAt s (at + 8)) (leb n (byteAt s (at + 9))) (leb n (byteAt s (at + 10)))) 19 0)
 
 -- Judging.
 
@@ -136,14 +135,13 @@ endFault s at n k =
 abbrev pub judged : ℕ → ℕ → Verdict → Verdict
 judged fault place rest = when (eqb fault 0) rest (Refused fault place)
 
+abbrev pub oneIf : Bool → ℕ
+oneIf test = when test 1 0
+
 -- Block by block of the n, the records from a place on, k blocks before
 unfoldable pub judgeEnds : List ℕ → ℕ → List ℕ → ℕ → Verdict
 judgeEnds s n [] k = Accepted
-judgeEnds s n (at ∷ rest) k =
-    when (isBlock s at) (judged (endFault s at n k) at (judgeEnds s n rest (k + 1))) (judgeEnds s n rest k)
-
-abbrev pub oneIf : Bool → ℕ
-oneIf test = when test 1 0
+judgeEnds s n (at ∷ rest) k = judged (endFault s at n k) at (judgeEnds s n rest (k + oneIf (isBlock s at)))
 
 -- Record by record, b blocks and e effects before; then 17, no counter or no block; then the blocks
 unfoldable pub judgeRecords : List ℕ → List ℕ → ℕ → ℕ → Verdict

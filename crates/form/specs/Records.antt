@@ -5,10 +5,12 @@ use mathlib.Core.List.{List, [], _∷_}
 use mathlib.Core.Path.{_≡_, refl, ap, sym, _∙_}
 use Prim.Native.Nat.{ℕ, zero, suc, _+_, _≤_, _<_}
 use native.Mathlib.Omega.{arith}
-use borrow.Author.Tests.{lt-ltb, le-ltb, ltb-true, ltb-false}
+use borrow.Author.Tests.{lt-ltb, le-ltb, ltb-true, ltb-false, ne-eqb, eq-eqb}
 use lib.Dec.{ltb, eqb}
 use lib.ListN.{length}
-use Rattle.form.specs.Form.{when, kindAt, recordLength, startsFor, recordsFrom}
+use Rattle.form.specs.declared.Verdict.{Verdict}
+use Rattle.form.specs.declared.Verdict.the-variants.{Refused}
+use Rattle.form.specs.Form.{when, kindAt, isBlock, isEffect, oneIf, judged, recordLength, startsFor, recordsFrom, recordFault, endFault, judgeEnds, judgeRecords}
 
 -- where the record at `at` ends
 abbrev pub next : List ℕ → ℕ → ℕ
@@ -61,3 +63,63 @@ pub records-step : (s : List ℕ) (at : ℕ) → at < length s → recordsFrom s
 unfolding recordsFrom
 records-step s at h =
     starts-enough (length s) (suc (length s)) s at (omega arith) (omega arith) ∙ starts-step (length s) s at h
+
+-- a fault decides, and without one what follows does
+pub judged-fault : (fault place : ℕ) (rest : Verdict) → (fault ≡ 0 → ⊥) → judged fault place rest ≡ Refused fault place
+judged-fault fault place rest n = rw (ne-eqb fault 0 n)
+
+pub judged-none : (fault place : ℕ) (rest : Verdict) → fault ≡ 0 → judged fault place rest ≡ rest
+judged-none fault place rest e = rw (eq-eqb fault 0 e)
+
+-- Judging goes on at the next record: the loop's turn, as it leaves and as it goes on.
+module _ (s : List ℕ) (at : ℕ) (h : at < length s) where
+  ends-step :
+      (n k : ℕ)
+      → judgeEnds s n (recordsFrom s at) k
+      ≡ judged (endFault s at n k) at (judgeEnds s n (recordsFrom s (next s at)) (k + oneIf (isBlock s at)))
+  unfolding judgeEnds
+  ends-step n k = rw (records-step s at h)
+
+  pub ends-leave :
+      (n k : ℕ) (all : Verdict) → (endFault s at n k ≡ 0 → ⊥) → judgeEnds s n (recordsFrom s at) k ≡ all
+      → Refused (endFault s at n k) at ≡ all
+  ends-leave n k all f p = sym (judged-fault (endFault s at n k) at _ f) ∙ (sym (ends-step n k) ∙ p)
+
+  pub ends-pass :
+      (n k : ℕ) (all : Verdict) → endFault s at n k ≡ 0 → judgeEnds s n (recordsFrom s at) k ≡ all
+      → judgeEnds s n (recordsFrom s (next s at)) (k + oneIf (isBlock s at)) ≡ all
+  ends-pass n k all e p = sym (judged-none (endFault s at n k) at _ e) ∙ (sym (ends-step n k) ∙ p)
+
+  rest-step :
+      (b e : ℕ)
+      → judgeRecords s (recordsFrom s at) b e
+      ≡ judged (recordFault s at b e) at
+      (judgeRecords s (recordsFrom s (next s at)) (b + oneIf (isBlock s at)) (e + oneIf (isEffect s at)))
+  unfolding judgeRecords
+  rest-step b e = rw (records-step s at h)
+
+  pub rest-leave :
+      (b e : ℕ) (all : Verdict) → (recordFault s at b e ≡ 0 → ⊥) → judgeRecords s (recordsFrom s at) b e ≡ all
+      → Refused (recordFault s at b e) at ≡ all
+  rest-leave b e all f p = sym (judged-fault (recordFault s at b e) at _ f) ∙ (sym (rest-step b e) ∙ p)
+
+  pub rest-pass :
+      (b e : ℕ) (all : Verdict) → recordFault s at b e ≡ 0 → judgeRecords s (recordsFrom s at) b e ≡ all
+      → judgeRecords s (recordsFrom s (next s at)) (b + oneIf (isBlock s at)) (e + oneIf (isEffect s at)) ≡ all
+  rest-pass b e all q p = sym (judged-none (recordFault s at b e) at _ q) ∙ (sym (rest-step b e) ∙ p)
+
+-- At the end of the records: 17 without a block, else the blocks decide.
+pub end-none : (s : List ℕ) (b e : ℕ) → b ≡ 0 → judgeRecords s [] b e ≡ Refused 17 (length s)
+unfolding judgeRecords
+end-none s b e h = rw (eq-eqb b 0 h) (cases (eqb (length s) 0))
+  where
+    cases :
+        (t : Bool)
+        → judged (when (mathlib.Core.Bool._||_ t true) 17 0) (length s) (judgeEnds s b (recordsFrom s 0) 0) ≡ Refused 17 (length s)
+    cases true = refl
+    cases false = refl
+
+pub end-some :
+    (s : List ℕ) (b e : ℕ) → (b ≡ 0 → ⊥) → b ≤ length s → judgeRecords s [] b e ≡ judgeEnds s b (recordsFrom s 0) 0
+unfolding judgeRecords
+end-some s b e n h = rw (ne-eqb b 0 n, ne-eqb (length s) 0 (λ z. n (omega arith)))

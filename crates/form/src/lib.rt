@@ -99,7 +99,7 @@ fn refuse_if(test: bool, number: u32, rest: u32) -> u32
 }
 
 fn one_if(test: bool) -> usize
-    ensures { λ r. ⌜ r ≡ oneIf test ⌝ }
+    ensures { λ r. ⌜ (r ≡ oneIf test) × (r ≤ 1) ⌝ }
 {
     if test { 1 } else { 0 }
 }
@@ -215,17 +215,19 @@ fn record_fault(s: &[u8], at: usize, b: usize, e: usize) -> u32
     refuse_if(left < 4, 10, refuse_if(unknown, 12, wrong))
 }
 
-// What is wrong with the block at `at`, number k of n; 0 if nothing.
+// What is wrong with a block at `at`, number k of n; 0 if nothing.
 fn end_fault(s: &[u8], at: usize, n: usize, k: usize) -> u32
     requires { ⌜ (at + 32 < 2 ^ 64) × (k + 1 < 2 ^ 64) ⌝ }
     ensures { λ r. ⌜ r ≡ endFault (now (s .entry)) at n k ⌝ }
 {
+    let kind = short_at(s, at + 2);
     let ending = byte_at(s, at + 8);
     let jump = byte_at(s, at + 9) as usize;
     let fall = byte_at(s, at + 10) as usize;
     let next = k + 1;
     let end = ((next < n) & (ending == 0)) | ((n <= next) & (0 < ending));
-    refuse_if(end, 18, refuse_if(some_target(ending, n <= jump, n <= fall), 19, 0))
+    let beyond = some_target(ending, n <= jump, n <= fall);
+    refuse_if((kind == 2) & end, 18, refuse_if((kind == 2) & beyond, 19, 0))
 }
 
 // 18 and 19, block by block of the n.
@@ -235,17 +237,15 @@ fn judge_ends(s: &[u8], n: usize) -> Verdict
     let mut at = 0;
     let mut k = 0;
     while at < s.len() {
-        let kind = short_at(s, at + 2);
-        if kind == 2 {
-            let fault = end_fault(s, at, n, k);
-            if fault != 0 {
-                return Verdict::Refused {
-                    number: fault,
-                    place: at,
-                };
-            }
-            k += 1;
+        let fault = end_fault(s, at, n, k);
+        if fault != 0 {
+            return Verdict::Refused {
+                number: fault,
+                place: at,
+            };
         }
+        let kind = short_at(s, at + 2);
+        k += one_if(kind == 2);
         at += record_length(kind) as usize;
     }
     Verdict::Accepted
