@@ -279,3 +279,25 @@ pub fn judge(s: &[u8]) -> Verdict
     }
     judge_ends(s, b)
 }
+
+// The signed number whose 32 bits these are.
+fn signed_of(bits: u32) -> i32
+    ensures { λ r. ⌜ r ≡ toZ w32 bits ⌝ }
+{
+    if bits < 2147483648 {
+        return bits as i32;
+    }
+    let below = (4294967295 - bits) as i32;
+    -1 - below
+}
+
+// The 32 bits of a signed number.
+fn bits_of(z: i32) -> u32
+    ensures { λ r. ⌜ r ≡ ofZ w32 z ⌝ }
+{
+    if 0 <= z {
+        return z as u32;
+    }
+    let below = (-1 - z) as u32;
+    4294967295 - below
+}

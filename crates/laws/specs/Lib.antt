@@ -1,1 +1,2 @@
 -- The laws that the crates above share; nothing of forms.
+pub mod Complement
