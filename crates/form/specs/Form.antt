@@ -174,13 +174,16 @@ unfoldable pub ownEffects : List ℕ → List ℕ → ℕ
 ownEffects s [] = 0
 ownEffects s (at ∷ rest) = when (isEffect s at) (suc (ownEffects s rest)) 0
 
-unfoldable pub blocksIn : List ℕ → List ℕ → List Block
-blocksIn s [] = []
-blocksIn s (at ∷ rest) = when (isBlock s at) (blockAt s at (ownEffects s rest) ∷ blocksIn s rest) (blocksIn s rest)
+-- What is made of each record that the test picks, in order; `make` also sees the records after it
+unfoldable pub gather : {A : Type 0} → (ℕ → Bool) → (ℕ → List ℕ → A) → List ℕ → List A
+gather test make [] = []
+gather test make (at ∷ rest) = when (test at) (make at rest ∷ gather test make rest) (gather test make rest)
 
-unfoldable pub effectsIn : List ℕ → List ℕ → List Effect
-effectsIn s [] = []
-effectsIn s (at ∷ rest) = when (isEffect s at) (effectAt s at ∷ effectsIn s rest) (effectsIn s rest)
+abbrev pub blocksIn : List ℕ → List ℕ → List Block
+blocksIn s records = gather (isBlock s) (λ at rest. blockAt s at (ownEffects s rest)) records
+
+abbrev pub effectsIn : List ℕ → List ℕ → List Effect
+effectsIn s records = gather (isEffect s) (λ at rest. effectAt s at) records
 
 abbrev pub zeroCounter : Counter
 zeroCounter = record { initial = pos 0; step = pos 0; relation = 0; limit = pos 0 }
@@ -204,10 +207,10 @@ bodyWith counter blocks effects =
     { counter = counter; count = length blocks; blocks = fill zeroBlock 64 blocks; total = length effects
     ; effects = fill zeroEffect 256 effects }
 
-unfoldable pub bodyOf : List ℕ → Body
+abbrev pub bodyOf : List ℕ → Body
 bodyOf s = bodyWith (counterAt s 0) (blocksIn s (recordsFrom s 0)) (effectsIn s (recordsFrom s 0))
 
-unfoldable pub zeroBody : Body
+abbrev pub zeroBody : Body
 zeroBody = bodyWith zeroCounter [] []
 
 -- Laying out.

@@ -10,7 +10,7 @@ use lib.Dec.{ltb, eqb}
 use lib.ListN.{length}
 use Rattle.form.specs.declared.Verdict.{Verdict}
 use Rattle.form.specs.declared.Verdict.the-variants.{Refused}
-use Rattle.form.specs.Form.{when, kindAt, isBlock, isEffect, oneIf, judged, recordLength, startsFor, recordsFrom, recordFault, endFault, judgeEnds, judgeRecords}
+use Rattle.form.specs.Form.{when, kindAt, isBlock, isEffect, oneIf, judged, recordLength, startsFor, recordsFrom, recordFault, endFault, judgeEnds, judgeRecords, ownEffects}
 
 -- where the record at `at` ends
 abbrev pub next : List ℕ → ℕ → ℕ
@@ -123,3 +123,21 @@ pub end-some :
     (s : List ℕ) (b e : ℕ) → (b ≡ 0 → ⊥) → b ≤ length s → judgeRecords s [] b e ≡ judgeEnds s b (recordsFrom s 0) 0
 unfolding judgeRecords
 end-some s b e n h = rw (ne-eqb b 0 n, ne-eqb (length s) 0 (λ z. n (omega arith)))
+
+-- A block's effects: one more at an effect, none at any other record and at the end.
+kind-length : (s : List ℕ) (at : ℕ) → kindAt s at ≡ 3 → next s at ≡ at + 10
+unfolding recordLength
+kind-length s at e = rw e
+
+module _ (s : List ℕ) (at : ℕ) (h : at < length s) where
+  pub own-more : kindAt s at ≡ 3 → ownEffects s (recordsFrom s at) ≡ suc (ownEffects s (recordsFrom s (at + 10)))
+  unfolding ownEffects
+  own-more e = rw (records-step s at h, eq-eqb (kindAt s at) 3 e) (ap (λ (n : ℕ). suc (ownEffects s (recordsFrom s n))) (kind-length s at e))
+
+  pub own-none : (kindAt s at ≡ 3 → ⊥) → ownEffects s (recordsFrom s at) ≡ 0
+  unfolding ownEffects
+  own-none n = rw (records-step s at h, ne-eqb (kindAt s at) 3 n)
+
+pub own-end : (s : List ℕ) (at : ℕ) → length s ≤ at → ownEffects s (recordsFrom s at) ≡ 0
+unfolding ownEffects
+own-end s at h = rw (records-end s at h)

@@ -7,7 +7,9 @@ ghost use lib.Dec.{ltb, leb, eqb};
 ghost use lib.ListN.{length};
 ghost use mir.Syntax.{w32};
 ghost use mir.Val.{toZ, ofZ};
-ghost use Rattle.form.specs.Form.{when, oneIf, byteAt, number2, number4, recordLength, recordsFrom, stray, someTarget, badCounter, badWays, badBlock, badEffect, badField, badTarget, outOfPlace, overLimit, payloadFault, recordFault, endFault, judgeEnds, judge};
+ghost use Rattle.form.specs.Form.{when, oneIf, byteAt, number2, number4, signed4, recordLength, recordsFrom, stray, someTarget, badCounter, badWays, badBlock, badEffect, badField, badTarget, outOfPlace, overLimit, payloadFault, recordFault, endFault, judgeEnds, judge, counterAt, blockAt, effectAt, ownEffects, blocksIn, effectsIn, fill, zeroBlock, zeroEffect, bodyOf, zeroBody};
+ghost use Rattle.form.specs.Answer.{reading};
+ghost use Rattle.form.specs.Filling.{placed};
 
 // The counter: what a kind 1 record holds.
 pub struct Counter {
@@ -44,6 +46,23 @@ pub struct Body {
     pub blocks: [Block; 64],
     pub total: usize,
     pub effects: [Effect; 256],
+}
+
+// The reader's answer: on a refusal every number of the body is zero.
+pub struct Reading {
+    pub verdict: Verdict,
+    pub body: Body,
+}
+
+// The blocks of a form, and its effects: how many, and the first of them.
+struct Blocks {
+    count: usize,
+    list: [Block; 64],
+}
+
+struct Effects {
+    count: usize,
+    list: [Effect; 256],
 }
 
 // What the reader says of bytes: a form, or the refusal's number and place.
@@ -300,4 +319,215 @@ fn bits_of(z: i32) -> u32
     }
     let below = (-1 - z) as u32;
     4294967295 - below
+}
+
+// The four bytes from i on as a signed number.
+fn signed_at(s: &[u8], i: usize) -> i32
+    requires { ⌜ i + 8 < 2 ^ 64 ⌝ }
+    ensures { λ r. ⌜ r ≡ signed4 (now (s .entry)) i ⌝ }
+{
+    signed_of(long_at(s, i))
+}
+
+fn counter_at(s: &[u8], at: usize) -> Counter
+    requires { ⌜ at + 32 < 2 ^ 64 ⌝ }
+    ensures { λ r. ⌜ r ≡ counterAt (now (s .entry)) at ⌝ }
+{
+    Counter {
+        initial: signed_at(s, at + 4),
+        step: signed_at(s, at + 8),
+        relation: byte_at(s, at + 12),
+        limit: signed_at(s, at + 13),
+    }
+}
+
+fn effect_at(s: &[u8], at: usize) -> Effect
+    requires { ⌜ at + 32 < 2 ^ 64 ⌝ }
+    ensures { λ r. ⌜ r ≡ effectAt (now (s .entry)) at ⌝ }
+{
+    Effect {
+        variable: byte_at(s, at + 4),
+        how: byte_at(s, at + 5),
+        constant: signed_at(s, at + 6),
+    }
+}
+
+fn block_at(s: &[u8], at: usize, own: usize) -> Block
+    requires { ⌜ at + 32 < 2 ^ 64 ⌝ }
+    ensures { λ r. ⌜ r ≡ blockAt (now (s .entry)) at own ⌝ }
+{
+    Block {
+        cost: long_at(s, at + 4),
+        ending: byte_at(s, at + 8),
+        jump: byte_at(s, at + 9),
+        fall: byte_at(s, at + 10),
+        variable: byte_at(s, at + 11),
+        relation: byte_at(s, at + 12),
+        constant: signed_at(s, at + 13),
+        effects: own,
+    }
+}
+
+// How many effects stand from `at` on before the next block or the end.
+fn own_effects(s: &[u8], start: usize) -> usize
+    requires { ⌜ start < 2 ^ 63 + 32 ⌝ }
+    ensures { λ r. ⌜ r ≡ ownEffects (now (s .entry)) (recordsFrom (now (s .entry)) start) ⌝ }
+{
+    let mut at = start;
+    let mut n = 0;
+    while at < s.len() {
+        if short_at(s, at + 2) != 3 {
+            return n;
+        }
+        n += 1;
+        at += 10;
+    }
+    n
+}
+
+fn zero_block() -> Block
+    ensures { λ r. ⌜ r ≡ zeroBlock ⌝ }
+{
+    Block {
+        cost: 0,
+        ending: 0,
+        jump: 0,
+        fall: 0,
+        variable: 0,
+        relation: 0,
+        constant: 0,
+        effects: 0,
+    }
+}
+
+fn zero_effect() -> Effect
+    ensures { λ r. ⌜ r ≡ zeroEffect ⌝ }
+{
+    Effect {
+        variable: 0,
+        how: 0,
+        constant: 0,
+    }
+}
+
+// The list with x at its next place, if it has one.
+fn with_block(list: [Block; 64], count: usize, x: Block) -> [Block; 64]
+    ensures { λ r. ⌜ r ≡ placed 64 list count x ⌝ }
+{
+    let mut r = list;
+    if count < 64 {
+        r[count] = x;
+    }
+    r
+}
+
+fn with_effect(list: [Effect; 256], count: usize, x: Effect) -> [Effect; 256]
+    ensures { λ r. ⌜ r ≡ placed 256 list count x ⌝ }
+{
+    let mut r = list;
+    if count < 256 {
+        r[count] = x;
+    }
+    r
+}
+
+fn blocks_of(s: &[u8]) -> Blocks
+    ensures { λ r. ⌜ (r .count ≡ length (blocksIn (now (s .entry)) (recordsFrom (now (s .entry)) 0))) × (r .list ≡ fill zeroBlock 64 (blocksIn (now (s .entry)) (recordsFrom (now (s .entry)) 0))) ⌝ }
+{
+    let mut list = [zero_block(); 64];
+    let mut count = 0;
+    let mut at = 0;
+    while at < s.len() {
+        let kind = short_at(s, at + 2);
+        let next = at + record_length(kind) as usize;
+        if kind == 2 {
+            let block = block_at(s, at, own_effects(s, next));
+            let longer = with_block(list, count, block);
+            list = longer;
+            count += 1;
+        }
+        at = next;
+    }
+    Blocks { count, list }
+}
+
+fn effects_of(s: &[u8]) -> Effects
+    ensures { λ r. ⌜ (r .count ≡ length (effectsIn (now (s .entry)) (recordsFrom (now (s .entry)) 0))) × (r .list ≡ fill zeroEffect 256 (effectsIn (now (s .entry)) (recordsFrom (now (s .entry)) 0))) ⌝ }
+{
+    let mut list = [zero_effect(); 256];
+    let mut count = 0;
+    let mut at = 0;
+    while at < s.len() {
+        let kind = short_at(s, at + 2);
+        let next = at + record_length(kind) as usize;
+        if kind == 3 {
+            let effect = effect_at(s, at);
+            let longer = with_effect(list, count, effect);
+            list = longer;
+            count += 1;
+        }
+        at = next;
+    }
+    Effects { count, list }
+}
+
+// The body of an accepted form.
+fn body_of(s: &[u8]) -> Body
+    ensures { λ r. ⌜ r ≡ bodyOf (now (s .entry)) ⌝ }
+{
+    let counter = counter_at(s, 0);
+    let b = blocks_of(s);
+    let e = effects_of(s);
+    let blocks = b.list;
+    let effects = e.list;
+    Body {
+        counter,
+        count: b.count,
+        blocks,
+        total: e.count,
+        effects,
+    }
+}
+
+fn zero_body() -> Body
+    ensures { λ r. ⌜ r ≡ zeroBody ⌝ }
+{
+    let counter = Counter {
+        initial: 0,
+        step: 0,
+        relation: 0,
+        limit: 0,
+    };
+    let blocks = [zero_block(); 64];
+    let effects = [zero_effect(); 256];
+    Body {
+        counter,
+        count: 0,
+        blocks,
+        total: 0,
+        effects,
+    }
+}
+
+// The reader, for any bytes: the verdict, and the body of an accepted form.
+pub fn read(s: &[u8]) -> Reading
+    ensures { λ r. ⌜ r ≡ reading (now (s .entry)) ⌝ }
+{
+    let verdict = judge(s);
+    match verdict {
+        Verdict::Accepted => {
+            let body = body_of(s);
+            Reading {
+                verdict: Verdict::Accepted,
+                body,
+            }
+        }
+        Verdict::Refused { number, place } => {
+            let body = zero_body();
+            Reading {
+                verdict: Verdict::Refused { number, place },
+                body,
+            }
+        }
+    }
 }

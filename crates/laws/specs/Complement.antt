@@ -7,9 +7,10 @@ use borrow.Author.Tests.{le-ltb, le-leb}
 use mathlib.Core.Bool.{true, false, false≢true}
 use lib.Dec.{T}
 use lib.IntN.{ℤ, pos, negsuc, _-ℤ_, natAbs}
-use lib.Signed.{leZ, nonNeg}
+use lib.Signed.{leZ, nonNeg, mag}
+use mir.Facts.{toZ-ofZ}
 use mir.Syntax.{w32}
-use mir.Val.{ofZ, Fits, SFits}
+use mir.Val.{ofZ, toZ, Fits, SFits}
 
 pub minus-one-less : (m : ℕ) → negsuc 0 -ℤ pos m ≡ negsuc m
 minus-one-less zero = refl
@@ -34,3 +35,7 @@ Complement z = (m : ℕ) × (negsuc 0 -ℤ z ≡ pos m) × (m < 2 ^ 31) × (4294
 pub negative-bits : (z : ℤ) → SFits w32 z → leZ (pos 0) z ≡ false → Complement z
 negative-bits (pos n) f e = absurd (false≢true (sym e ∙ le-leb 0 n (omega arith)))
 negative-bits (negsuc m) f e = (m, minus-one-less-negative m, f .sfits, omega arith)
+
+-- a signed number that a call gave, as it is held in 32 bits
+pub held : {r z : ℤ} → mag r < 2 ^ 31 → r ≡ z → toZ w32 (ofZ w32 r) ≡ z
+held ok e = toZ-ofZ (record { sfits = ok }) ∙ e
