@@ -8,7 +8,7 @@ ghost use lib.ListN.{length};
 ghost use mir.Syntax.{w32};
 ghost use mir.Val.{toZ, ofZ};
 ghost use Rattle.form.specs.Form.{when, oneIf, byteAt, number2, number4, signed4, recordLength, recordsFrom, stray, someTarget, badCounter, badWays, badBlock, badEffect, badField, badTarget, outOfPlace, overLimit, payloadFault, recordFault, endFault, judgeEnds, judge, counterAt, blockAt, effectAt, ownEffects, blocksIn, effectsIn, fill, zeroBlock, zeroEffect, bodyOf, zeroBody};
-ghost use Rattle.form.specs.Answer.{reading};
+ghost use Rattle.form.specs.Answer.{accepted, reading};
 ghost use Rattle.form.specs.Filling.{placed};
 
 // The counter: what a kind 1 record holds.
@@ -509,25 +509,25 @@ fn zero_body() -> Body
     }
 }
 
+// Whether the verdict accepts.
+pub fn accepts(verdict: Verdict) -> bool
+    ensures { λ r. ⌜ r ≡ accepted verdict ⌝ }
+{
+    match verdict {
+        Verdict::Accepted => true,
+        Verdict::Refused { number: _, place: _ } => false,
+    }
+}
+
 // The reader, for any bytes: the verdict, and the body of an accepted form.
 pub fn read(s: &[u8]) -> Reading
     ensures { λ r. ⌜ r ≡ reading (now (s .entry)) ⌝ }
 {
     let verdict = judge(s);
-    match verdict {
-        Verdict::Accepted => {
-            let body = body_of(s);
-            Reading {
-                verdict: Verdict::Accepted,
-                body,
-            }
-        }
-        Verdict::Refused { number, place } => {
-            let body = zero_body();
-            Reading {
-                verdict: Verdict::Refused { number, place },
-                body,
-            }
-        }
+    if accepts(verdict) {
+        let body = body_of(s);
+        return Reading { verdict, body };
     }
+    let body = zero_body();
+    Reading { verdict, body }
 }
