@@ -243,7 +243,7 @@ layBlocks [] es = []
 layBlocks (k ∷ ks) es = blockBytes k ++ (layEffects (take (k .effects) es) ++ layBlocks ks (drop (k .effects) es))
 
 unfoldable pub lay : Body → List ℕ
-lay body = counterBytes (body .counter) ++ layBlocks (take (body .count) (body .blocks)) (take (body .total) (body .effects))
+lay body = counterBytes (body .counter) ++ layBlocks (take (body .count) (body .blocks)) (body .effects)
 
 -- The writer's counts: within the limits, and the blocks' own effects add up
 unfoldable pub sumOwn : List Block → ℕ

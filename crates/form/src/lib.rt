@@ -2,13 +2,16 @@
 // bodies. The meaning of each is in specs/Form.antt; the mathematics that proofs share is in specs/ and in the crate laws.
 ghost use mathlib.Core.Path.{_≡_};
 ghost use mathlib.Core.Bool.{_&&_, _||_, not};
-ghost use Prim.Native.Nat.{ℕ, _+_, _-_, _<_, _≤_, _^_};
+ghost use mathlib.Core.Bool.{true};
+ghost use mathlib.Core.List.{_++_};
+ghost use Prim.Native.Nat.{ℕ, _+_, _-_, _*_, _/_, _%_, _<_, _≤_, _^_};
 ghost use lib.Dec.{ltb, leb, eqb};
-ghost use lib.ListN.{length};
+ghost use lib.ListN.{length, take, drop};
+ghost use lib.Seq.{paste};
 ghost use mir.Syntax.{w32};
 ghost use mir.Val.{toZ, ofZ};
-ghost use Rattle.form.specs.Form.{when, oneIf, byteAt, number2, number4, signed4, recordLength, recordsFrom, stray, someTarget, badCounter, badWays, badBlock, badEffect, badField, badTarget, outOfPlace, overLimit, payloadFault, recordFault, endFault, judgeEnds, judge, counterAt, blockAt, effectAt, ownEffects, blocksIn, effectsIn, fill, zeroBlock, zeroEffect, bodyOf, zeroBody};
-ghost use Rattle.form.specs.Answer.{accepted, reading};
+ghost use Rattle.form.specs.Form.{when, oneIf, byteAt, number2, number4, signed4, recordLength, recordsFrom, stray, someTarget, badCounter, badWays, badBlock, badEffect, badField, badTarget, outOfPlace, overLimit, payloadFault, recordFault, endFault, judgeEnds, judge, counterAt, blockAt, effectAt, ownEffects, blocksIn, effectsIn, fill, zeroBlock, zeroEffect, bodyOf, zeroBody, bytes4, counterBytes, blockBytes, effectBytes, layEffects, lay, countsFit};
+ghost use Rattle.form.specs.Answer.{accepted, reading, asJudged, written, heldAfter};
 ghost use Rattle.form.specs.Filling.{placed};
 
 // The counter: what a kind 1 record holds.
@@ -46,6 +49,12 @@ pub struct Body {
     pub blocks: [Block; 64],
     pub total: usize,
     pub effects: [Effect; 256],
+}
+
+// The writer's answer: how many bytes it wrote, or the refusal's number and place.
+pub enum Written {
+    Bytes(usize),
+    Unwritten { number: u32, place: usize },
 }
 
 // The reader's answer: on a refusal every number of the body is zero.
@@ -530,4 +539,88 @@ pub fn read(s: &[u8]) -> Reading
     }
     let body = zero_body();
     Reading { verdict, body }
+}
+
+// Bytes copied into `out` from `at` on; the place after them.
+fn copy_in(out: &mut [u8], at: usize, bytes: &[u8]) -> usize
+    requires { ⌜ at + length (now bytes) ≤ length (now out) ⌝ }
+    ensures { λ r. ⌜ (r ≡ at + length (now (bytes .entry))) × (now (out .exit) ≡ paste (now (out .entry)) at (now (bytes .entry)) (length (now (bytes .entry)))) ⌝ }
+{
+    let mut j = 0;
+    while j < bytes.len() {
+        out[at + j] = bytes[j];
+        j += 1;
+    }
+    at + j
+}
+
+fn counter_bytes(c: Counter) -> [u8; 17]
+    ensures { λ r. ⌜ r ≡ counterBytes c ⌝ }
+{
+    let i = bits_of(c.initial);
+    let s = bits_of(c.step);
+    let l = bits_of(c.limit);
+    [
+        17,
+        0,
+        1,
+        0,
+        (i % 256) as u8,
+        (i / 256 % 256) as u8,
+        (i / 65536 % 256) as u8,
+        (i / 16777216 % 256) as u8,
+        (s % 256) as u8,
+        (s / 256 % 256) as u8,
+        (s / 65536 % 256) as u8,
+        (s / 16777216 % 256) as u8,
+        c.relation,
+        (l % 256) as u8,
+        (l / 256 % 256) as u8,
+        (l / 65536 % 256) as u8,
+        (l / 16777216 % 256) as u8,
+    ]
+}
+
+fn block_bytes(k: Block) -> [u8; 17]
+    ensures { λ r. ⌜ r ≡ blockBytes k ⌝ }
+{
+    let cost = k.cost;
+    let c = bits_of(k.constant);
+    [
+        17,
+        0,
+        2,
+        0,
+        (cost % 256) as u8,
+        (cost / 256 % 256) as u8,
+        (cost / 65536 % 256) as u8,
+        (cost / 16777216 % 256) as u8,
+        k.ending,
+        k.jump,
+        k.fall,
+        k.variable,
+        k.relation,
+        (c % 256) as u8,
+        (c / 256 % 256) as u8,
+        (c / 65536 % 256) as u8,
+        (c / 16777216 % 256) as u8,
+    ]
+}
+
+fn effect_bytes(e: Effect) -> [u8; 10]
+    ensures { λ r. ⌜ r ≡ effectBytes e ⌝ }
+{
+    let c = bits_of(e.constant);
+    [
+        10,
+        0,
+        3,
+        0,
+        e.variable,
+        e.how,
+        (c % 256) as u8,
+        (c / 256 % 256) as u8,
+        (c / 65536 % 256) as u8,
+        (c / 16777216 % 256) as u8,
+    ]
 }

@@ -39,3 +39,7 @@ negative-bits (negsuc m) f e = (m, minus-one-less-negative m, f .sfits, omega ar
 -- a signed number that a call gave, as it is held in 32 bits
 pub held : {r z : ℤ} → mag r < 2 ^ 31 → r ≡ z → toZ w32 (ofZ w32 r) ≡ z
 held ok e = toZ-ofZ (record { sfits = ok }) ∙ e
+
+-- the bits of a signed number, as a field of a struct hands it to a call
+pub field-bits : (z : ℤ) {r : ℕ} → mag z < 2 ^ 31 → r ≡ ofZ w32 (toZ w32 (ofZ w32 z)) → r ≡ ofZ w32 z
+field-bits z ok e = e ∙ ap (ofZ w32) (toZ-ofZ {w = w32} {z = z} (record { sfits = ok }))
