@@ -1,1 +1,2 @@
 -- The trusted definitions of the lower layer.
+pub mod Relation
