@@ -1,1 +1,4 @@
 -- The laws that the crates above share; nothing of forms.
+pub mod Tests
+pub mod Orders
+pub mod Sets
