@@ -1,4 +1,6 @@
 -- The laws that the crates above share; nothing of forms.
+pub mod Terms
 pub mod Tests
 pub mod Orders
+pub mod Lists
 pub mod Sets

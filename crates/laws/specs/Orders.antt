@@ -1,5 +1,5 @@
 -- Strict total orders as Bool tests: pairs, lists of numbers at the first place where they part, and the choice between weights (heavier, lighter).
--- Rests on Tests.
+-- Rests on Terms and Tests.
 use mathlib.Core.Path.{_≡_, refl, sym, _∙_}
 use mathlib.Core.Logic.{_⊎_, inl, inr}
 use mathlib.Core.Bool.{Bool, true, false, not, _||_, _&&_}
@@ -8,6 +8,7 @@ use Prim.Native.Nat.{ℕ, _+_}
 use native.Mathlib.Omega.{arith}
 use borrow.Author.Tests.{ltb-true, ltb-false, lt-ltb, le-ltb}
 use lib.Dec.{ltb}
+use Rattle.laws.specs.Terms.{next, pairb, heavier}
 use Rattle.laws.specs.Tests.{split, clash, ltb-shift}
 
 pub record Order {A : Type 0} (lt : A → A → Bool) : Type 0 where
@@ -39,9 +40,6 @@ flip-order lt o = record { irr = o .irr; trans = λ a b c p q. o .trans c b a q 
 
 -- ---- first by one test, then by another: a before b, b before a, and the rest's test
 
-abbrev pub next : Bool → Bool → Bool → Bool
-next a b c = a || (not b && c)
-
 module _ {A : Type 0} {lt : A → A → Bool} (o : Order lt) where
   next-cases : (a b : A) (x : Bool) → next (lt a b) (lt b a) x ≡ true → (lt a b ≡ true) ⊎ ((a ≡ b) × (x ≡ true))
   next-cases a b x p =
@@ -66,10 +64,7 @@ module _ {A : Type 0} {lt : A → A → Bool} (o : Order lt) where
       (o .tri a b e f, rw (e, f) at p, rw (e, f) at q)
 
 module _ {A B : Type 0} (lt : A → A → Bool) (mt : B → B → Bool) where
-  abbrev pub pairb : A × B → A × B → Bool
-  pairb p q = next (lt (p .0) (q .0)) (lt (q .0) (p .0)) (mt (p .1) (q .1))
-
-  pub pair-order : Order lt → Order mt → Order pairb
+  pub pair-order : Order lt → Order mt → Order (pairb lt mt)
   pair-order o w = record {
     irr = λ p. next-same o (p .0) _ ∙ w .irr (p .1);
     trans = λ p q r h k. next-trans o (p .0) (q .0) (r .0) _ _ _ (w .trans (p .1) (q .1) (r .1)) (next-cases o _ _ _ h) (next-cases o _ _ _ k);
@@ -119,9 +114,6 @@ module _ {A : Type 0} (lt : A → A → Bool) where
 pub record Choice (prefers : ℕ → ℕ → Bool) : Type 0 where
   pub order : Order prefers
   pub shift : (c a b : ℕ) → prefers (c + a) (c + b) ≡ prefers a b
-
-abbrev pub heavier : ℕ → ℕ → Bool
-heavier a b = ltb b a
 
 pub heaviest : Choice heavier
 heaviest = record { order = flip-order ltb ltb-order; shift = λ c a b. ltb-shift c b a }

@@ -1,6 +1,6 @@
 -- Sets of small numbers as words: bit k of x for the number k. `bit x k` is that bit, as a Bool, and `setOf n f` the word of the k below n with f k.
 -- A contract speaks of bits; two words below 2 ^ n with the same n bits are equal (`ext`). What `&`, `|`, `^`, and-not, single bits, the lowest bit and
--- the order of numbers mean on sets. Rests on Tests and the kit's words.
+-- the order of numbers mean on sets. Rests on Terms and the kit's words.
 use mathlib.Core.Path.{_≡_, refl, sym, ap, ap₂, _∙_, subst}
 use mathlib.Core.Logic.{_⊎_, inl, inr, _↔_}
 use mathlib.Core.Bool.{Bool, true, false, not, _&&_, _||_, true≢false, false≢true, and-true, and-false}
@@ -14,19 +14,9 @@ use lib.Arith.{lt-one, digits-div, digits-mod, digits-lt}
 use lib.Pow.{pow-pos, pow-mono, pow-lt, shr-shr, split}
 use lib.Bits.{bitAnd, bitOr, bitXor, and-step, or-step, xor-step, differ, and-le-l, and-le-r, and-shr, or-shr, xor-shr, and-lt, or-lt, xor-lt, or-disjoint, and-self}
 use lib.Count.{trailingZeros, under, trailing-le}
+use Rattle.laws.specs.Terms.{digit, odd, bit, setOf}
 
 -- ---- one digit
-
-abbrev pub digit : Bool → ℕ
-digit true = 1
-digit false = 0
-
-abbrev pub odd : ℕ → Bool
-odd x = eqb (x % 2) 1
-
--- bit k of x
-unfoldable pub bit : ℕ → ℕ → Bool
-bit x k = odd (x / 2 ^ k)
 
 two-pos : zero < 2
 two-pos = zero-lt-suc 1
@@ -88,11 +78,6 @@ ext (suc n) {x} {y} hx hy same =
     ∙ sym (halves y)
 
 -- ---- the word of a test
-
--- the sum of 2 ^ k over the k below n with f k, lowest first
-unfoldable pub setOf : ℕ → (ℕ → Bool) → ℕ
-setOf zero f = 0
-setOf (suc n) f = setOf n (λ k. f (suc k)) * 2 + digit (f 0)
 
 pub setOf-lt : (n : ℕ) (f : ℕ → Bool) → setOf n f < 2 ^ n
 unfolding setOf

@@ -1,12 +1,12 @@
--- Tests as Bool equations (`a ≡ true`, `a ≡ false`): case work, facts out of `&&`, `||` and `not` and back, tests for some number below a bound
--- (`any`) or some entry of a list (`anyOf`), and the bridges to the tests of numbers. Rests on the kit alone.
+-- Tests as Bool equations (`a ≡ true`, `a ≡ false`): case work, facts out of `&&`, `||` and `not` and back, tests for some number
+-- below a bound, and the bridges to the tests of numbers. Rests on Terms.
 use mathlib.Core.Path.{_≡_, refl, sym, ap, _∙_}
-use mathlib.Core.Bool.{Bool, true, false, not, true≢false, cond, _||_, _&&_, or-assoc, or-comm, or-true, and-true, and-or-distrib-right}
-use mathlib.Core.List.{List, [], _∷_}
+use mathlib.Core.Bool.{Bool, true, false, not, true≢false, _||_, _&&_, or-assoc, or-comm, or-true, and-true, and-or-distrib-right}
 use Prim.Native.Nat.{ℕ, zero, suc, _+_, _≤_, _<_}
 use native.Mathlib.Omega.{arith}
 use borrow.Author.Tests.{ltb-true, ltb-false, eqb-true, lt-ltb, le-ltb, eq-eqb}
 use lib.Dec.{eqb, ltb}
+use Rattle.laws.specs.Terms.{any, before}
 
 -- ---- case work
 
@@ -93,10 +93,6 @@ nor-swap true false b = sym (and-true (not b))
 
 -- ---- for some i below n
 
-abbrev pub any : ℕ → (ℕ → Bool) → Bool
-any zero f = false
-any (suc n) f = f zero || any n (λ i. f (suc i))
-
 pub any-out : (n : ℕ) (f : ℕ → Bool) → any n f ≡ true → (i : ℕ) × (i < n) × (f i ≡ true)
 any-out zero f h = clash h refl
 any-out (suc n) f h =
@@ -123,21 +119,7 @@ pub any-and : (n : ℕ) (f : ℕ → Bool) (k : Bool) → any n (λ i. f i && k)
 any-and zero f k = refl
 any-and (suc n) f k = rw (any-and n (λ i. f (suc i)) k, and-or-distrib-right)
 
--- ---- for some entry of a list
-
-module _ {A : Type 0} where
-  abbrev pub anyOf : (A → Bool) → List A → Bool
-  anyOf f [] = false
-  anyOf f (x ∷ l) = f x || anyOf f l
-
 -- ---- tests of numbers
-
--- i < j, by clauses that compute
-abbrev pub before : ℕ → ℕ → Bool
-before zero zero = false
-before zero (suc j) = true
-before (suc i) zero = false
-before (suc i) (suc j) = before i j
 
 pub before-out : (i j : ℕ) → before i j ≡ true → i < j
 before-out zero zero h = clash h refl
