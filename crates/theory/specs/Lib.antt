@@ -1,0 +1,5 @@
+-- Routes, tails, rows and runs. Trusted definitions: Route, Row, Run.
+pub mod Route
+pub mod Row
+pub mod Run
+pub mod Example
