@@ -4,3 +4,4 @@ pub mod Tests
 pub mod Orders
 pub mod Lists
 pub mod Sets
+pub mod Rows

@@ -3,3 +3,6 @@ pub mod Route
 pub mod Row
 pub mod Run
 pub mod Example
+pub mod Machine
+pub mod RowLaws
+pub mod Table
