@@ -6,3 +6,4 @@ pub mod Example
 pub mod Machine
 pub mod RowLaws
 pub mod Table
+pub mod Walk
