@@ -7,3 +7,6 @@ pub mod Machine
 pub mod RowLaws
 pub mod Table
 pub mod Walk
+pub mod Steps
+pub mod Edges
+pub mod Backward
