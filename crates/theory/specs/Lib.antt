@@ -10,3 +10,4 @@ pub mod Walk
 pub mod Steps
 pub mod Edges
 pub mod Backward
+pub mod Forward
