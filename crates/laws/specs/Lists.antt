@@ -3,7 +3,7 @@
 use mathlib.Core.Path.{_≡_, refl, sym, ap, _∙_}
 use mathlib.Core.Logic.{_⊎_, inl, inr}
 use mathlib.Core.Bool.{Bool, true, false, not, cond, _||_, _&&_}
-use mathlib.Core.List.{List, [], _∷_, _++_, map}
+use mathlib.Core.List.{List, [], _∷_, _++_, map, append-assoc}
 use Prim.Native.Nat.{ℕ, zero, suc, _+_, _≤_, _<_}
 use native.Mathlib.Omega.{arith}
 use borrow.Author.Tests.{eqb-true, eqb-false, lt-ltb}
@@ -96,6 +96,46 @@ module _ {A B : Type 0} where
   pub map-in : (f : A → B) (l : List A) (x : A) → Mem x l → Mem (f x) (map f l)
   map-in f (z ∷ l) x (inl e) = inl (ap f e)
   map-in f (z ∷ l) x (inr m) = inr (map-in f l x m)
+
+-- ---- lists with a test
+
+module _ {A : Type 0} where
+  pub only-none : (l : List A) → only (λ x. false) l ≡ []
+  only-none [] = refl
+  only-none (x ∷ l) = only-none l
+
+  -- two tests that agree on the list
+  pub only-same : (f g : A → Bool) (l : List A) → ((x : A) → Mem x l → f x ≡ g x) → only f l ≡ only g l
+  only-same f g [] h = refl
+  only-same f g (x ∷ l) h = rw (h x (inl refl), only-same f g l (λ y m. h y (inr m)))
+
+  -- the order of two tests does not matter
+  pub only-swap : (f g : A → Bool) (l : List A) → only f (only g l) ≡ only g (only f l)
+  only-swap f g [] = refl
+  only-swap f g (x ∷ l) = go (f x) (g x) refl refl (only-swap f g l)
+    where
+      go : (a b : Bool) → f x ≡ a → g x ≡ b → only f (only g l) ≡ only g (only f l) → only f (cond b (x ∷ only g l) (only g l)) ≡ only g (cond a (x ∷ only f l) (only f l))
+      go true true p q h = rw (p, q) (ap (λ t. x ∷ t) h)
+      go true false p q h = rw q h
+      go false true p q h = rw p h
+      go false false p q h = h
+
+module _ {A B : Type 0} where
+  pub only-map : (f : B → Bool) (g : A → B) (l : List A) → only f (map g l) ≡ map g (only (λ x. f (g x)) l)
+  only-map f g [] = refl
+  only-map f g (x ∷ l) = go (f (g x)) (only-map f g l)
+    where
+      go : (c : Bool) → only f (map g l) ≡ map g (only (λ x. f (g x)) l) → cond c (g x ∷ only f (map g l)) (only f (map g l)) ≡ map g (cond c (x ∷ only (λ x. f (g x)) l) (only (λ x. f (g x)) l))
+      go true h = ap (λ t. g x ∷ t) h
+      go false h = h
+
+  pub each-same : (l : List A) (f g : A → List B) → ((x : A) → Mem x l → f x ≡ g x) → each l f ≡ each l g
+  each-same [] f g h = refl
+  each-same (x ∷ l) f g h = rw (h x (inl refl), each-same l f g (λ y m. h y (inr m)))
+
+  pub each-append : (l r : List A) (f : A → List B) → each (l ++ r) f ≡ each l f ++ each r f
+  each-append [] r f = refl
+  each-append (x ∷ l) r f = rw (each-append l r f) (sym (append-assoc (f x) (each l f) (each r f)))
 
 -- ---- ranges
 

@@ -11,3 +11,4 @@ pub mod Steps
 pub mod Edges
 pub mod Backward
 pub mod Forward
+pub mod Passes

@@ -121,7 +121,7 @@ whole count l = map (λ e. e .1) (only (λ e. eqb (suc (e .0)) count) l)
 abbrev pub within : ℕ → ℕ → Option Val → Option (ℕ × Option Val)
 within budget k o = cond (ltb budget k) none (some (k, o))
 
-whole-behind : (count : ℕ) (g : Val → Val) (l : List (ℕ × Val)) → whole count (map (λ e. (e .0, g (e .1))) l) ≡ map g (whole count l)
+pub whole-behind : (count : ℕ) (g : Val → Val) (l : List (ℕ × Val)) → whole count (map (λ e. (e .0, g (e .1))) l) ≡ map g (whole count l)
 whole-behind count g [] = refl
 whole-behind count g (e ∷ l) = go (eqb (suc (e .0)) count) (whole-behind count g l)
   where
