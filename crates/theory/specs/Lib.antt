@@ -12,3 +12,4 @@ pub mod Edges
 pub mod Backward
 pub mod Forward
 pub mod Passes
+pub mod Answer
