@@ -1,2 +1,3 @@
 -- The trusted definitions of the lower layer.
 pub mod Relation
+pub mod Counter

@@ -1,1 +1,3 @@
 -- The laws that the crates above share; nothing of forms.
+pub mod Whole
+pub mod Signed
