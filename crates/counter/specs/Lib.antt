@@ -1,1 +1,2 @@
 -- The definitions that the contracts of the counter cite.
+pub mod Answer

@@ -9,7 +9,7 @@ use lib.Signed.{mag, quotZ, remZ}
 use mir.Syntax.{Width, w32, w64}
 use mir.Val.{SFits, hbits, toZ, ofZ}
 use mir.Facts.{toZ-ofZ}
-use Rattle.laws.specs.Whole.{up, dn, is-pos, sum-is, diff-is, up-neg, dn-neg}
+use Rattle.laws.specs.Whole.{up, dn, no-dn, is-pos, sum-is, diff-is, up-neg, dn-neg}
 
 -- ---- a width's range
 pub sfits-up : {w : Width} (x : ℤ) → SFits w x → up x < 2 ^ hbits w
@@ -47,13 +47,20 @@ module _ (x : ℤ) (f : SFits w32 x) where
 pub handed : {r z : ℤ} → mag r < 2 ^ 63 → r ≡ z → toZ w64 (ofZ w64 r) ≡ z
 handed ok e = toZ-ofZ (record { sfits = ok }) ∙ e
 
+-- the same where it is what was read back from a number of 32 bits
+pub widened : {r z : ℤ} → SFits w32 z → mag r < 2 ^ 63 → r ≡ toZ w32 (ofZ w32 z) → toZ w64 (ofZ w64 r) ≡ z
+widened f ok e = handed ok (e ∙ toZ-ofZ f)
+
+pub widened-diff : {r a b : ℤ} → SFits w32 a → SFits w32 b → mag r < 2 ^ 63 → r ≡ toZ w32 (ofZ w32 a) -ℤ toZ w32 (ofZ w32 b) → toZ w64 (ofZ w64 r) ≡ a -ℤ b
+widened-diff f g ok e = handed ok (e ∙ (λ i. toZ-ofZ f i -ℤ toZ-ofZ g i))
+
 -- ---- a signed quotient and remainder, of a number that is not negative by a positive one
-module _ (a b : ℤ) (fa : SFits w64 a) (fb : SFits w64 b) (a-up : dn a ≡ 0) (b-up : dn b ≡ 0) where
+module _ (a b : ℤ) (fa : SFits w64 a) (fb : SFits w64 b) (not-below : dn a ≡ 0) (above : 0 < up b) where
   read : toZ w64 (ofZ w64 a) ≡ pos (up a)
-  read = toZ-ofZ fa ∙ is-pos a a-up
+  read = toZ-ofZ fa ∙ is-pos a not-below
 
   read-by : toZ w64 (ofZ w64 b) ≡ pos (up b)
-  read-by = toZ-ofZ fb ∙ is-pos b b-up
+  read-by = toZ-ofZ fb ∙ is-pos b (no-dn b above)
 
   quot : quotZ (toZ w64 (ofZ w64 a)) (toZ w64 (ofZ w64 b)) ≡ pos (up a / up b)
   quot i = quotZ (read i) (read-by i)
@@ -61,8 +68,8 @@ module _ (a b : ℤ) (fa : SFits w64 a) (fb : SFits w64 b) (a-up : dn a ≡ 0) (
   quot-small : SFits w64 (pos (up a / up b))
   quot-small = record { sfits = omega (arith, div-le-self (up a) (up b), sfits-up a fa) }
 
-  pub quot-asks : 0 < up b → (0 < ofZ w64 b) × SFits w64 (quotZ (toZ w64 (ofZ w64 a)) (toZ w64 (ofZ w64 b)))
-  quot-asks h = (rw (is-pos b b-up) h, rw quot quot-small)
+  pub quot-asks : (0 < ofZ w64 b) × SFits w64 (quotZ (toZ w64 (ofZ w64 a)) (toZ w64 (ofZ w64 b)))
+  quot-asks = (rw (is-pos b (no-dn b above)) above, rw quot quot-small)
 
   pub quot-gives : toZ w64 (ofZ w64 (quotZ (toZ w64 (ofZ w64 a)) (toZ w64 (ofZ w64 b)))) ≡ pos (up a / up b)
   quot-gives = ap (λ (z : ℤ). toZ w64 (ofZ w64 z)) quot ∙ toZ-ofZ quot-small

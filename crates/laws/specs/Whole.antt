@@ -33,6 +33,10 @@ pub not-negative : (x : ℤ) → dn x ≤ up x → dn x ≡ 0
 not-negative (pos n) h = refl
 not-negative (negsuc n) h = omega arith
 
+pub not-positive : (x : ℤ) → up x ≤ dn x → up x ≡ 0
+not-positive (pos n) h = omega arith
+not-positive (negsuc n) h = refl
+
 pub is-pos : (x : ℤ) → dn x ≡ 0 → x ≡ pos (up x)
 is-pos (pos n) h = refl
 is-pos (negsuc n) h = absurd (no n h)
@@ -69,6 +73,9 @@ dn-neg (negsuc n) = refl
 
 pub diff-is : (x y : ℤ) → up (x -ℤ y) + (dn x + up y) ≡ dn (x -ℤ y) + (up x + dn y)
 diff-is x y = omega (arith, sum-is x (negℤ y), up-neg y, dn-neg y)
+
+pub one-less : (z : ℤ) → 0 < up z → z -ℤ pos 1 ≡ pos (up z - 1)
+one-less z h = same-whole (z -ℤ pos 1) (pos (up z - 1)) (omega (arith, diff-is z (pos 1), no-dn z h))
 
 -- ---- two tests of naturals agree
 pub same-ltb : (a b c d : ℕ) → a + d ≡ b + c → ltb a b ≡ ltb c d

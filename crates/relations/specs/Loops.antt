@@ -5,10 +5,10 @@ use mathlib.Core.Bool.{Bool, true, false, cond}
 use Prim.Native.Nat.{ℕ, zero, suc, _+_, _-_, _*_, _^_, _<_, _≤_}
 use native.Mathlib.Nat.{mul-comm, mul-suc, mul-le-mul-left, le-mul-of-pos-right}
 use native.Mathlib.Omega.{arith}
-use lib.IntN.{ℤ, pos, negsuc, negℤ, _+ℤ_, _-ℤ_}
+use lib.IntN.{ℤ, pos, negsuc, _+ℤ_, _-ℤ_}
 use mir.Syntax.{w32}
 use mir.Val.{SFits}
-use Rattle.laws.specs.Whole.{up, dn, not-negative, same-whole, sum-is, diff-is, up-neg, dn-neg}
+use Rattle.laws.specs.Whole.{up, dn, not-negative, same-whole, sum-is, diff-is}
 use Rattle.laws.specs.Signed.{sfits-up, sfits-dn, sfits-in}
 use Rattle.form.specs.Relation.{meets}
 use Rattle.form.specs.Counter.{after, IsCount, Count}
@@ -39,7 +39,18 @@ greatest = pos 2147483647
 unfoldable pub countOf : (initial step : ℤ) (relation : ℕ) (limit : ℤ) → ℕ
 countOf initial (pos zero) relation limit = cond (meets relation initial limit) 0 1
 countOf initial (pos (suc n)) relation limit = within (suc n) relation (limit -ℤ initial) (up (greatest -ℤ initial))
-countOf initial (negsuc n) relation limit = within (suc n) (mirrored relation) (negℤ (limit -ℤ initial)) (up (initial -ℤ smallest))
+countOf initial (negsuc n) relation limit = within (suc n) (mirrored relation) (initial -ℤ limit) (up (initial -ℤ smallest))
+
+pub count-up : (initial step : ℤ) (relation : ℕ) (limit : ℤ) → 0 < up step → countOf initial step relation limit ≡ within (up step) relation (limit -ℤ initial) (up (greatest -ℤ initial))
+unfolding countOf
+count-up initial (pos zero) relation limit h = omega arith
+count-up initial (pos (suc n)) relation limit h = refl
+count-up initial (negsuc n) relation limit h = omega arith
+
+pub count-down : (initial step : ℤ) (relation : ℕ) (limit : ℤ) → 0 < dn step → countOf initial step relation limit ≡ within (dn step) (mirrored relation) (initial -ℤ limit) (up (initial -ℤ smallest))
+unfolding countOf
+count-down initial (pos n) relation limit h = omega arith
+count-down initial (negsuc n) relation limit h = refl
 
 -- ---- a loop as steps up from 0: their tests are the loop's, and their room is its range
 record Rises (initial step : ℤ) (relation : ℕ) (limit : ℤ) (s turn : ℕ) (gap : ℤ) (room : ℕ) : Type 0 where
@@ -70,37 +81,41 @@ module _ (initial step : ℤ) (relation : ℕ) (limit : ℤ) (s turn : ℕ) (gap
   steps-few : (k : ℕ) → Count initial step relation limit k → k ≤ 4294967295
   steps-few k a = omega (arith, rises .small, le-mul-of-pos-right k (rises .some), mul-comm k s, from-loop k a .1)
 
-module _ (initial : ℤ) (fits : SFits w32 initial) (relation : ℕ) (limit : ℤ) where
-  room-up : up (greatest -ℤ initial) + up initial ≡ 2147483647 + dn initial
-  room-up =
-      let above : dn (greatest -ℤ initial) ≡ 0 = not-negative (greatest -ℤ initial) (omega (arith, diff-is greatest initial, sfits-up initial fits)) in
-      omega (arith, diff-is greatest initial)
+module _ (initial : ℤ) (fits : SFits w32 initial) where
+  -- the room to the range's ends
+  pub some-room-up : dn (greatest -ℤ initial) ≡ 0
+  some-room-up = not-negative (greatest -ℤ initial) (omega (arith, diff-is greatest initial, sfits-up initial fits))
 
+  room-up : up (greatest -ℤ initial) + up initial ≡ 2147483647 + dn initial
+  room-up = omega (arith, diff-is greatest initial, some-room-up)
+
+  pub some-room-down : dn (initial -ℤ smallest) ≡ 0
+  some-room-down = not-negative (initial -ℤ smallest) (omega (arith, diff-is initial smallest, sfits-dn initial fits))
+
+  room-down : up (initial -ℤ smallest) + dn initial ≡ 2147483648 + up initial
+  room-down = omega (arith, diff-is initial smallest, some-room-down)
+
+module _ (initial : ℤ) (fits : SFits w32 initial) (relation : ℕ) (limit : ℤ) where
   upward : (n : ℕ) → Rises initial (pos (suc n)) relation limit (suc n) relation (limit -ℤ initial) (up (greatest -ℤ initial))
   upward n =
       let v = after initial (pos (suc n)) in
       record {
         some = omega arith;
         tests = λ j. shifted relation (v j) limit (pos (suc n * j)) (limit -ℤ initial) (omega (arith, after-is initial (pos (suc n)) j, diff-is limit initial));
-        inside = λ j h. sfits-in w32 (v j) (omega (arith, after-is initial (pos (suc n)) j, room-up)) (omega (arith, after-is initial (pos (suc n)) j, sfits-dn initial fits));
-        leaves = λ j f. omega (arith, after-is initial (pos (suc n)) j, room-up, sfits-up (v j) f);
-        small = omega (arith, room-up, sfits-dn initial fits);
+        inside = λ j h. sfits-in w32 (v j) (omega (arith, after-is initial (pos (suc n)) j, room-up initial fits)) (omega (arith, after-is initial (pos (suc n)) j, sfits-dn initial fits));
+        leaves = λ j f. omega (arith, after-is initial (pos (suc n)) j, room-up initial fits, sfits-up (v j) f);
+        small = omega (arith, room-up initial fits, sfits-dn initial fits);
       }
 
-  room-down : up (initial -ℤ smallest) + dn initial ≡ 2147483648 + up initial
-  room-down =
-      let above : dn (initial -ℤ smallest) ≡ 0 = not-negative (initial -ℤ smallest) (omega (arith, diff-is initial smallest, sfits-dn initial fits)) in
-      omega (arith, diff-is initial smallest)
-
-  downward : (n : ℕ) → Rises initial (negsuc n) relation limit (suc n) (mirrored relation) (negℤ (limit -ℤ initial)) (up (initial -ℤ smallest))
+  downward : (n : ℕ) → Rises initial (negsuc n) relation limit (suc n) (mirrored relation) (initial -ℤ limit) (up (initial -ℤ smallest))
   downward n =
       let v = after initial (negsuc n) in
       record {
         some = omega arith;
-        tests = λ j. turned relation (v j) limit (pos (suc n * j)) (negℤ (limit -ℤ initial)) (omega (arith, after-is initial (negsuc n) j, diff-is limit initial, up-neg (limit -ℤ initial), dn-neg (limit -ℤ initial)));
-        inside = λ j h. sfits-in w32 (v j) (omega (arith, after-is initial (negsuc n) j, sfits-up initial fits)) (omega (arith, after-is initial (negsuc n) j, room-down));
-        leaves = λ j f. omega (arith, after-is initial (negsuc n) j, room-down, sfits-dn (v j) f);
-        small = omega (arith, room-down, sfits-up initial fits);
+        tests = λ j. turned relation (v j) limit (pos (suc n * j)) (initial -ℤ limit) (omega (arith, after-is initial (negsuc n) j, diff-is initial limit));
+        inside = λ j h. sfits-in w32 (v j) (omega (arith, after-is initial (negsuc n) j, sfits-up initial fits)) (omega (arith, after-is initial (negsuc n) j, room-down initial fits));
+        leaves = λ j f. omega (arith, after-is initial (negsuc n) j, room-down initial fits, sfits-dn (v j) f);
+        small = omega (arith, room-down initial fits, sfits-up initial fits);
       }
 
   -- no step: the value stays

@@ -5,7 +5,7 @@ use mathlib.Core.Bool.{Bool, true, false, not, cond}
 use Prim.Native.Nat.{ℕ, zero, suc, _+_, _-_, _*_, _/_, _%_, _<_, _≤_}
 use native.Mathlib.Nat.{mul-one, mul-zero, mul-comm, mul-le-mul-left, mul-lt-mul-of-pos-left, mul-div-le, lt-mul-div-succ, div-add-mod, mul-mod-right, le-div-iff-mul-le}
 use native.Mathlib.Omega.{arith}
-use borrow.Author.Tests.{eqb-true, eqb-false, ltb-true, ltb-false, leb-true, leb-false}
+use borrow.Author.Tests.{eqb-true, eqb-false, ltb-true, ltb-false, leb-true, leb-false, le-leb, lt-leb}
 use lib.Dec.{T, eqb, ltb, leb}
 use lib.IntN.{ℤ, pos}
 use lib.Signed.{ltZ, leZ}
@@ -21,6 +21,13 @@ Found P (suc k) = P (suc k)
 pub found-as : (P Q : ℕ → Type 0) → ((k : ℕ) → P k → Q k) → ((k : ℕ) → Q k → P k) → (n : ℕ) → Found P n → Found Q n
 found-as P Q f g zero w = λ k q. w k (g k q)
 found-as P Q f g (suc k) w = f (suc k) w
+
+pub found-none : (P : ℕ → Type 0) (n : ℕ) → n ≡ 0 → Found P n → (k : ℕ) → P k → ⊥
+found-none P n e w = subst (Found P) e w
+
+pub found-some : (P : ℕ → Type 0) (n : ℕ) → (n ≡ 0 → ⊥) → Found P n → P n
+found-some P zero h w = absurd (h refl)
+found-some P (suc k) h w = w
 
 is-found : (P : ℕ → Type 0) (k : ℕ) → 1 ≤ k → P k → Found P k
 is-found P zero h p = omega arith
@@ -52,12 +59,31 @@ later s (suc (suc (suc (suc zero)))) gap = 0
 later s (suc (suc (suc (suc (suc zero))))) gap = up gap / s + 1
 later s (suc (suc (suc (suc (suc (suc m)))))) gap = 0
 
+-- ≥, > and what is no relation never fail later
+pub later-never : (s relation : ℕ) (gap : ℤ) → (relation ≡ 0 → ⊥) → (relation ≡ 1 → ⊥) → (relation ≡ 2 → ⊥) → (relation ≡ 5 → ⊥) → later s relation gap ≡ 0
+unfolding later
+later-never s zero gap n0 n1 n2 n5 = absurd (n0 refl)
+later-never s (suc zero) gap n0 n1 n2 n5 = absurd (n1 refl)
+later-never s (suc (suc zero)) gap n0 n1 n2 n5 = absurd (n2 refl)
+later-never s (suc (suc (suc zero))) gap n0 n1 n2 n5 = refl
+later-never s (suc (suc (suc (suc zero)))) gap n0 n1 n2 n5 = refl
+later-never s (suc (suc (suc (suc (suc zero))))) gap n0 n1 n2 n5 = absurd (n5 refl)
+later-never s (suc (suc (suc (suc (suc (suc m)))))) gap n0 n1 n2 n5 = refl
+
 unfoldable pub first : (s relation : ℕ) (gap : ℤ) → ℕ
 first s relation gap = cond (meets relation (pos s) gap) (later s relation gap) 1
 
 -- the same where that many steps stay within the room, else 0
 unfoldable pub within : (s relation : ℕ) (gap : ℤ) (room : ℕ) → ℕ
 within s relation gap room = cond (leb (first s relation gap) (room / s)) (first s relation gap) 0
+
+pub within-room : (s relation : ℕ) (gap : ℤ) (room : ℕ) → first s relation gap ≤ room / s → within s relation gap room ≡ first s relation gap
+unfolding within
+within-room s relation gap room h = ap (λ (t : Bool). cond t (first s relation gap) 0) (le-leb (first s relation gap) (room / s) h)
+
+pub beyond-room : (s relation : ℕ) (gap : ℤ) (room : ℕ) → room / s < first s relation gap → within s relation gap room ≡ 0
+unfolding within
+beyond-room s relation gap room h = ap (λ (t : Bool). cond t (first s relation gap) 0) (lt-leb (first s relation gap) (room / s) h)
 
 -- ---- what it is the closed form of
 pub record First (s relation : ℕ) (gap : ℤ) (k : ℕ) : Type 0 where
