@@ -176,11 +176,8 @@ fn downward(initial: i32, step: i32, relation: u8, limit: i32) -> u64
 fn still(initial: i32, relation: u8, limit: i32) -> u64
     ensures { λ r. ⌜ r ≡ countOf initial (pos 0) relation limit ⌝ }
 {
-    if meets(relation, wide(initial), wide(limit)) {
-        0
-    } else {
-        1
-    }
+    let endless = meets(relation, wide(initial), wide(limit));
+    if endless { 0 } else { 1 }
 }
 
 // The count, or 0 where there is none.
