@@ -5,3 +5,5 @@ pub mod Orders
 pub mod Lists
 pub mod Sets
 pub mod Rows
+pub mod Whole
+pub mod Signed
