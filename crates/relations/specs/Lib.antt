@@ -2,3 +2,4 @@
 pub mod Relations
 pub mod Steps
 pub mod Loops
+pub mod Conditions
