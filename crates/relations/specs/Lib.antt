@@ -3,3 +3,4 @@ pub mod Relations
 pub mod Steps
 pub mod Loops
 pub mod Conditions
+pub mod ConflictList

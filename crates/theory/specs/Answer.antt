@@ -12,13 +12,14 @@ use native.Mathlib.Omega.{arith}
 use borrow.Author.Tests.{le-ltb}
 use lib.Dec.{eqb, ltb}
 use lib.ListN.{length, length-map}
-use Rattle.laws.specs.Terms.{Mem, Sorted, only, each, anyOf}
+use Rattle.laws.specs.Terms.{Mem, only, each, anyOf}
 use Rattle.laws.specs.Tests.{is-false, clash, and-out}
 use Rattle.laws.specs.Orders.{Order, Choice, pair-order, ltb-order}
 use Rattle.laws.specs.Lists.{only-same, only-swap, only-map, each-same, map-in, map-out, anyOf-out}
 use Rattle.laws.specs.Rows.{put}
 use Rattle.form.specs.declared.Body.{Body}
-use Rattle.form.specs.Conflict.{Edge, Pair, exitsBy, exits, block, Onward}
+use Rattle.form.specs.Conflict.{Edge, Pair, Onward}
+use Rattle.relations.specs.ConflictList.{exits-ordered}
 use Rattle.theory.specs.Route.{Path, paths, beginnings, conflict, tails, routes, weighed, best, bestRoute, walked}
 use Rattle.theory.specs.Row.{Key, keyBefore, same, listed, bare, openEdges, addKey, keys, ofKey, found, rowOf, openTails, Entry, entryOf, row}
 use Rattle.theory.specs.Machine.{Val, better, Machine, Forward, Ordered, passed, passedFrom, built}
@@ -49,25 +50,6 @@ module _ {K : Type 0} (lt : K → K → Bool) (o : Order lt) (k : K) where
       ap (λ ks. each ks (λ k. found k (best prefers (ofKey lt k (e ∷ l))))) (one-key e l h)
       ∙ append-nil (found k (best prefers (ofKey lt k (e ∷ l))))
       ∙ ap (λ m. found k (best prefers m)) (all-of (e ∷ l) h)
-
--- ---- the machines go up the graph, jump before fall
-
-ordered : (ending jump fall : ℕ) → Sorted (λ o q. ltb (o .0) (q .0)) (exitsBy ending jump fall)
-ordered zero j f = tt
-ordered (suc zero) j f = (λ y m. absurd m, tt)
-ordered (suc (suc zero)) j f = (only-two, (λ y m. absurd m, tt))
-  where
-    only-two : (y : ℕ × ℕ) → Mem y ((2, f) ∷ []) → ltb 1 (y .0) ≡ true
-    only-two y (inl e) = rw e
-ordered (suc (suc (suc zero))) j f = (only-two, (λ y m. absurd m, tt))
-  where
-    only-two : (y : ℕ × ℕ) → Mem y ((2, f) ∷ []) → ltb 1 (y .0) ≡ true
-    only-two y (inl e) = rw e
-ordered (suc (suc (suc (suc n)))) j f = tt
-
-pub exits-ordered : (body : Body) (b : ℕ) → Sorted (λ o q. ltb (o .0) (q .0)) (exits body b)
-unfolding exits
-exits-ordered body b = ordered (block body b .ending) (block body b .jump) (block body b .fall)
 
 pub key-order : Order keyBefore
 key-order = pair-order ltb ltb ltb-order ltb-order

@@ -13,3 +13,4 @@ pub mod Backward
 pub mod Forward
 pub mod Passes
 pub mod Answer
+pub mod Listing
