@@ -1,0 +1,105 @@
+-- The worked example of document 01: its list, routes, rows, weight, route bytes, walked and kept, by computation.
+-- Rests on Route, Row and form's Conflict.
+use mathlib.Core.Path.{_≡_, refl, ap, _∙_}
+use mathlib.Core.List.{List, [], _∷_, map}
+use mathlib.Core.Option.{Option, none, some}
+use Prim.Native.Nat.{ℕ}
+use lib.IntN.{ℤ, pos}
+use Rattle.laws.specs.Terms.{heavier, range, setOf}
+use Rattle.form.specs.declared.Body.{Body}
+use Rattle.form.specs.declared.Block.{Block}
+use Rattle.form.specs.declared.Effect.{Effect}
+use Rattle.form.specs.Conflict.{Pair, block, effectsBelow, effectsOf, touches, lastOn, exits, isTest, condition, contradict, opposes, denies, clean, assigned, crossed, pairsOf, conflicts, conflictBytes}
+use Rattle.theory.specs.Route.{Path, stepCost, paths, conflict, tails, routes, weight, best, bestRoute, wayOf, routeBytes, beginnings, walked}
+use Rattle.theory.specs.Row.{Entry, listed, bare, openEdges, addKey, keys, rowOf, openTails, leftBy, row, longest, kept, highest, crowded}
+
+-- cost, jump
+abbrev goes : ℕ → ℕ → ℕ → Block
+goes cost effects jump = record { cost = cost; ending = 1; jump = jump; fall = 0; variable = 0; relation = 0; constant = pos 0; effects = effects }
+
+-- cost, variable, relation, constant, jump, fall
+abbrev asks : ℕ → ℕ → ℕ → ℤ → ℕ → ℕ → Block
+asks cost variable relation constant jump fall =
+    record { cost = cost; ending = 3; jump = jump; fall = fall; variable = variable; relation = relation; constant = constant; effects = 0 }
+
+abbrev sets : ℕ → ℤ → Effect
+sets variable constant = record { variable = variable; how = 1; constant = constant }
+
+abbrev pub example : Body
+example = record {
+  counter = record { initial = pos 0; step = pos 1; relation = 2; limit = pos 10 };
+  count = 8;
+  blocks = asks 7 0 3 (pos 40) 2 1 ∷ goes 3 1 3 ∷ goes 11 1 3 ∷ asks 2 0 2 (pos 20) 4 5 ∷ goes 25 0 5 ∷ asks 4 1 0 (pos 0) 7 6 ∷ goes 18 0 7
+      ∷ record { cost = 1; ending = 0; jump = 0; fall = 0; variable = 0; relation = 0; constant = pos 0; effects = 0 } ∷ [];
+  total = 2;
+  effects = sets 1 (pos 0) ∷ sets 1 (pos 1) ∷ [];
+}
+
+pub list : conflictBytes example ≡ 2 ∷ 0 ∷ 1 ∷ 3 ∷ 1 ∷ 1 ∷ 2 ∷ 1 ∷ 5 ∷ 1 ∷ 1 ∷ 1 ∷ 1 ∷ 5 ∷ 2 ∷ []
+unfolding block effectsBelow effectsOf touches lastOn exits isTest condition contradict opposes denies clean assigned crossed pairsOf conflicts conflictBytes
+list = refl
+
+abbrev pairs : List Pair
+pairs =
+    record { kind = 2; first = 0; third = 1; second = 3; outcome = 1 }
+    ∷ record { kind = 1; first = 2; third = 1; second = 5; outcome = 1 }
+    ∷ record { kind = 1; first = 1; third = 1; second = 5; outcome = 2 } ∷ []
+
+pub pairs-are : conflicts example ≡ pairs
+unfolding block effectsBelow effectsOf touches lastOn exits isTest condition contradict opposes denies clean assigned crossed pairsOf conflicts
+pairs-are = refl
+
+-- the three conflict-free routes, in order
+pub routes-are : routes example
+    ≡ ((0, 1) ∷ (2, 1) ∷ (3, 2) ∷ (5, 2) ∷ (6, 1) ∷ [])
+    ∷ ((0, 2) ∷ (1, 1) ∷ (3, 1) ∷ (4, 1) ∷ (5, 1) ∷ [])
+    ∷ ((0, 2) ∷ (1, 1) ∷ (3, 2) ∷ (5, 1) ∷ []) ∷ []
+unfolding block effectsBelow effectsOf touches lastOn exits isTest condition contradict opposes denies paths conflict tails
+routes-are = refl
+
+pub best-is : bestRoute example (stepCost example) heavier ≡ some (43, (0, 1) ∷ (2, 1) ∷ (3, 2) ∷ (5, 2) ∷ (6, 1) ∷ [])
+unfolding bestRoute weight best block
+best-is = ap (λ l. best heavier (map (λ p. (weight (stepCost example) 7 p, p)) l)) routes-are
+
+pub bytes-are : routeBytes example ((0, 1) ∷ (2, 1) ∷ (3, 2) ∷ (5, 2) ∷ (6, 1) ∷ []) ≡ 1 ∷ 0 ∷ 1 ∷ 2 ∷ 0 ∷ 2 ∷ 1 ∷ 3 ∷ []
+unfolding routeBytes wayOf
+bytes-are = refl
+
+pub walked-is : walked example ≡ 13
+unfolding block effectsBelow effectsOf touches lastOn exits isTest condition contradict opposes denies conflict beginnings walked
+walked-is = refl
+
+abbrev rowAt : ℕ → List Entry
+rowAt b = row example pairs (stepCost example) heavier b
+
+abbrev entry : ℕ → ℕ → ℕ → ℕ → ℕ → Entry
+entry jumps falls weight jumped fallen = record { jumps = jumps; falls = falls; weight = weight; jumped = jumped; fallen = fallen }
+
+-- all eight rows, block 0 first
+pub rows-are : map rowAt (range 0 8)
+    ≡ (entry 0 0 43 69 40 ∷ [])
+    ∷ (entry 0 0 10 34 8 ∷ entry 8 0 35 58 0 ∷ [])
+    ∷ (entry 0 0 36 68 40 ∷ entry 8 0 61 92 32 ∷ [])
+    ∷ (entry 0 32 25 64 40 ∷ entry 8 32 50 88 32 ∷ entry 32 0 7 32 8 ∷ entry 40 0 32 56 0 ∷ [])
+    ∷ (entry 0 32 48 80 32 ∷ entry 32 0 30 48 0 ∷ [])
+    ∷ (entry 0 32 23 64 32 ∷ entry 32 0 5 32 0 ∷ [])
+    ∷ (entry 0 0 19 64 0 ∷ [])
+    ∷ (entry 0 0 1 0 0 ∷ []) ∷ []
+unfolding block effectsBelow effectsOf touches lastOn exits isTest condition contradict opposes denies conflict paths tails weight best listed bare openEdges addKey keys rowOf openTails leftBy row setOf
+rows-are = refl
+
+four-at-most : longest rowAt 8 ≡ 4
+unfolding block effectsBelow effectsOf touches lastOn exits isTest condition contradict opposes denies conflict paths tails weight best listed bare openEdges addKey keys rowOf openTails leftBy row setOf longest
+four-at-most = refl
+
+pub kept-is : kept example (stepCost example) heavier ≡ 4
+unfolding kept
+kept-is = ap (λ l. longest (row example l (stepCost example) heavier) 8) pairs-are ∙ four-at-most
+
+none-crowded : highest rowAt 8 ≡ none
+unfolding block effectsBelow effectsOf touches lastOn exits isTest condition contradict opposes denies conflict paths tails weight best listed bare openEdges addKey keys rowOf openTails leftBy row setOf highest
+none-crowded = refl
+
+pub crowded-is : crowded example (stepCost example) heavier ≡ none
+unfolding crowded
+crowded-is = ap (λ l. highest (row example l (stepCost example) heavier) 8) pairs-are ∙ none-crowded
