@@ -3,4 +3,5 @@ pub mod Relations
 pub mod Steps
 pub mod Loops
 pub mod Conditions
+pub mod PairTest
 pub mod ConflictList

@@ -1,0 +1,2 @@
+-- The definitions that the contracts of the conflicts cite, and what they leave.
+pub mod Pair
