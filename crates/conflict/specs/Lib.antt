@@ -1,2 +1,3 @@
 -- The definitions that the contracts of the conflicts cite, and what they leave.
 pub mod Pair
+pub mod Parts

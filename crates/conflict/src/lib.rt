@@ -2,12 +2,18 @@
 // meaning of each is in specs/ and in form's Conflict.
 ghost use mathlib.Core.Path.{_≡_};
 ghost use mathlib.Core.Bool.{_&&_, _||_, not};
+ghost use Prim.Native.Nat.{ℕ, _+_, _≤_};
+ghost use lib.Dec.{eqb, ltb};
+ghost use lib.ListN.{length, getD};
 ghost use lib.IntN.{ℤ, pos, _-ℤ_};
 ghost use lib.Signed.{ltZ};
-ghost use Rattle.laws.specs.Terms.{digit};
+ghost use Rattle.laws.specs.Terms.{digit, bit};
+ghost use Rattle.form.specs.Form.{when};
+ghost use Rattle.form.specs.Conflict.{noBlock};
 ghost use Rattle.form.specs.Relation.{eqZ, opposite};
-ghost use Rattle.relations.specs.PairTest.{low, level, high, apart, someOf};
+ghost use Rattle.relations.specs.PairTest.{low, level, high, apart, someOf, shares};
 ghost use Rattle.conflict.specs.Pair.{conflicting};
+ghost use Rattle.conflict.specs.Parts.{blockIn, TestsOf, target, TargetsOf, HitsOf};
 
 // ---- the pair test: constants are compared, never subtracted
 
@@ -85,4 +91,159 @@ pub extern "C" fn conflict_pair(relation1: u8, constant1: i32, relation2: u8, co
     } else {
         0
     }
+}
+
+// ---- blocks and effects as words and lists of numbers
+
+// The tests of a body: which blocks they are, and each block's variable, relation by jump and by fall, and constant.
+struct Tests {
+    tests: u64,
+    variable: [u8; 64],
+    jump: [u8; 64],
+    fall: [u8; 64],
+    constant: [i32; 64],
+}
+
+// Where each block's jump and fall lead; 64 where it has no such way.
+struct Targets {
+    jump: [usize; 64],
+    fall: [usize; 64],
+}
+
+// The tests that a block touches, and those whose jump or fall edge its last effect on their variable denies.
+struct Hits {
+    touched: u64,
+    jump: u64,
+    fall: u64,
+}
+
+fn opposite(relation: u8) -> u8
+    ensures { λ r. ⌜ r ≡ opposite relation ⌝ }
+{
+    match relation {
+        0 => 1,
+        1 => 0,
+        2 => 3,
+        3 => 2,
+        4 => 5,
+        5 => 4,
+        _ => relation,
+    }
+}
+
+// The block, where it is one of the body's.
+fn own_block(count: usize, i: usize, k: form::Block) -> form::Block
+    ensures { λ r. ⌜ r ≡ when (ltb i count) k noBlock ⌝ }
+{
+    if i < count {
+        return k;
+    }
+    form::Block {
+        cost: 0,
+        ending: 0,
+        jump: 0,
+        fall: 0,
+        variable: 0,
+        relation: 0,
+        constant: 0,
+        effects: 0,
+    }
+}
+
+fn tests_of(count: usize, blocks: [form::Block; 64]) -> Tests
+    ensures { λ r. ⌜ TestsOf (blockIn count blocks) r ⌝ }
+{
+    let mut tests = 0;
+    let mut variable = [0; 64];
+    let mut jump = [0; 64];
+    let mut fall = [0; 64];
+    let mut constant = [0; 64];
+    let mut i = 0;
+    while i < 64 {
+        let k = own_block(count, i, blocks[i]);
+        tests = words::put(tests, i, k.ending == 3);
+        variable[i] = k.variable;
+        jump[i] = k.relation;
+        fall[i] = opposite(k.relation);
+        let c = k.constant;
+        constant[i] = c;
+        i += 1;
+    }
+    Tests {
+        tests,
+        variable,
+        jump,
+        fall,
+        constant,
+    }
+}
+
+fn target(has: bool, to: u8) -> usize
+    ensures { λ r. ⌜ r ≡ target has to ⌝ }
+{
+    if has { to as usize } else { 64 }
+}
+
+fn targets_of(count: usize, blocks: [form::Block; 64]) -> Targets
+    ensures { λ r. ⌜ TargetsOf (blockIn count blocks) r ⌝ }
+{
+    let mut jump = [64; 64];
+    let mut fall = [64; 64];
+    let mut i = 0;
+    while i < 64 {
+        let k = own_block(count, i, blocks[i]);
+        jump[i] = target((0 < k.ending) & (k.ending < 4), k.jump);
+        fall[i] = target((1 < k.ending) & (k.ending < 4), k.fall);
+        i += 1;
+    }
+    Targets { jump, fall }
+}
+
+// The tests on variable v.
+fn on_variable(tests: u64, variable: &[u8], v: u8) -> u64
+    requires { ⌜ length (now variable) ≡ 64 ⌝ }
+    ensures { λ r. ⌜ ((j : ℕ) → bit r j ≡ bit tests j && eqb (getD (now (variable .entry)) j 0) v) ⌝ }
+{
+    let mut r = 0;
+    let mut j = 0;
+    while j < 64 {
+        r = words::put(r, j, words::has(tests, j) & (variable[j] == v));
+        j += 1;
+    }
+    r
+}
+
+fn opposed_if(asked: bool, relation1: u8, constant1: i32, relation2: u8, constant2: i32) -> bool
+    ensures { λ r. ⌜ r ≡ asked && not (shares relation1 constant1 relation2 constant2) ⌝ }
+{
+    if asked { conflicting(relation1, constant1, relation2, constant2) } else { false }
+}
+
+// Those of the set whose relation to their constant no whole number has together with the relation to the constant.
+fn opposed(set: u64, relations: &[u8], constants: &[i32], relation: u8, constant: i32) -> u64
+    requires { ⌜ (length (now relations) ≡ 64) × (length (now constants) ≡ 64) ⌝ }
+    ensures { λ r. ⌜ ((j : ℕ) → bit r j ≡ bit set j && not (shares relation constant (getD (now (relations .entry)) j 0) (getD (now (constants .entry)) j (pos 0)))) ⌝ }
+{
+    let mut r = 0;
+    let mut j = 0;
+    while j < 64 {
+        let asked = words::has(set, j);
+        r = words::put(r, j, opposed_if(asked, relation, constant, relations[j], constants[j]));
+        j += 1;
+    }
+    r
+}
+
+// Column s of a square of bits.
+fn column(rows: &[u64], s: usize) -> u64
+    requires { ⌜ length (now rows) ≡ 64 ⌝ }
+    ensures { λ r. ⌜ ((j : ℕ) → bit r j ≡ bit (getD (now (rows .entry)) j 0) s) ⌝ }
+{
+    let mut r = 0;
+    let mut j = 0;
+    while j < 64 {
+        r = words::put(r, j, words::has(rows[j], s));
+        j += 1;
+    }
+    r
 }

@@ -4,4 +4,5 @@ pub mod Steps
 pub mod Loops
 pub mod Conditions
 pub mod PairTest
+pub mod Blocks
 pub mod ConflictList
