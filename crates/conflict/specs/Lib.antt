@@ -1,3 +1,4 @@
 -- The definitions that the contracts of the conflicts cite, and what they leave.
 pub mod Pair
 pub mod Parts
+pub mod Turns

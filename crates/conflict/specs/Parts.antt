@@ -5,7 +5,7 @@ use mathlib.Core.List.{List}
 use Prim.Native.Nat.{ℕ, _<_}
 use lib.Dec.{eqb, ltb}
 use lib.IntN.{ℤ, pos}
-use lib.ListN.{getD, take}
+use lib.ListN.{length, getD, take}
 use Rattle.laws.specs.Terms.{bit, anyOf}
 use Rattle.words.specs.Filled.{Told}
 use Rattle.form.specs.declared.Block.{Block}
@@ -42,6 +42,13 @@ fallOf k = target (ltb 1 (k .ending) && ltb (k .ending) 4) (k .fall)
 pub record TargetsOf (block : ℕ → Block) (t : Targets) : Type 0 where
   pub jumps : Told 64 (λ k x. x ≡ jumpOf (block k)) 64 64 (t .jump)
   pub falls : Told 64 (λ k x. x ≡ fallOf (block k)) 64 64 (t .fall)
+
+-- the lists have a place for each block
+pub record Sizes (variable jump fall : List ℕ) (constant : List ℤ) : Type 0 where
+  pub variables : length variable ≡ 64
+  pub jumps : length jump ≡ 64
+  pub falls : length fall ≡ 64
+  pub constants : length constant ≡ 64
 
 -- of the tests with these variables, relations and constants: those that effects touch, and those whose jump or fall edge the last of them denies
 pub record HitsOf (tests : ℕ) (variable jump fall : List ℕ) (constant : List ℤ) (effects : List Effect) (h : Hits) : Type 0 where

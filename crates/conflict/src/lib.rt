@@ -4,7 +4,7 @@ ghost use mathlib.Core.Path.{_≡_};
 ghost use mathlib.Core.Bool.{_&&_, _||_, not};
 ghost use Prim.Native.Nat.{ℕ, _+_, _≤_};
 ghost use lib.Dec.{eqb, ltb};
-ghost use lib.ListN.{length, getD};
+ghost use lib.ListN.{length, getD, take, drop};
 ghost use lib.IntN.{ℤ, pos, _-ℤ_};
 ghost use lib.Signed.{ltZ};
 ghost use Rattle.laws.specs.Terms.{digit, bit};
@@ -12,8 +12,9 @@ ghost use Rattle.form.specs.Form.{when};
 ghost use Rattle.form.specs.Conflict.{noBlock};
 ghost use Rattle.form.specs.Relation.{eqZ, opposite};
 ghost use Rattle.relations.specs.PairTest.{low, level, high, apart, someOf, shares};
+ghost use Rattle.relations.specs.Effects.{Within};
 ghost use Rattle.conflict.specs.Pair.{conflicting};
-ghost use Rattle.conflict.specs.Parts.{blockIn, TestsOf, target, TargetsOf, HitsOf};
+ghost use Rattle.conflict.specs.Parts.{blockIn, TestsOf, target, TargetsOf, Sizes, HitsOf};
 
 // ---- the pair test: constants are compared, never subtracted
 
@@ -216,7 +217,11 @@ fn on_variable(tests: u64, variable: &[u8], v: u8) -> u64
 fn opposed_if(asked: bool, relation1: u8, constant1: i32, relation2: u8, constant2: i32) -> bool
     ensures { λ r. ⌜ r ≡ asked && not (shares relation1 constant1 relation2 constant2) ⌝ }
 {
-    if asked { conflicting(relation1, constant1, relation2, constant2) } else { false }
+    if asked {
+        conflicting(relation1, constant1, relation2, constant2)
+    } else {
+        false
+    }
 }
 
 // Those of the set whose relation to their constant no whole number has together with the relation to the constant.
@@ -228,7 +233,11 @@ fn opposed(set: u64, relations: &[u8], constants: &[i32], relation: u8, constant
     let mut j = 0;
     while j < 64 {
         let asked = words::has(set, j);
-        r = words::put(r, j, opposed_if(asked, relation, constant, relations[j], constants[j]));
+        r = words::put(
+            r,
+            j,
+            opposed_if(asked, relation, constant, relations[j], constants[j]),
+        );
         j += 1;
     }
     r
@@ -246,4 +255,54 @@ fn column(rows: &[u64], s: usize) -> u64
         j += 1;
     }
     r
+}
+
+// The effects of a block, `own` of them from place `from` on: which tests they touch, and which edges the last on their variable denies.
+fn hits_of(
+    tests: u64,
+    variable: &[u8],
+    jump: &[u8],
+    fall: &[u8],
+    constant: &[i32],
+    effects: [form::Effect; 256],
+    from: usize,
+    own: usize,
+) -> Hits
+    requires { ⌜ Sizes (now variable) (now jump) (now fall) (now constant) × (from + own ≤ 256) ⌝ }
+    ensures { λ r. ⌜ HitsOf tests (now (variable .entry)) (now (jump .entry)) (now (fall .entry)) (now (constant .entry)) (take own (drop from effects)) r ⌝ }
+{
+    let mut touched = 0;
+    let mut by_jump = 0;
+    let mut by_fall = 0;
+    let mut k = 0;
+    while k < own {
+        let a = effects[from + k];
+        let value = a.constant;
+        let on = on_variable(tests, variable, a.variable);
+        let set = words::only(a.how == 1, on);
+        touched = words::either(touched, on);
+        by_jump = words::either(
+            words::less(by_jump, on),
+            opposed(set, jump, constant, 0, value),
+        );
+        by_fall = words::either(
+            words::less(by_fall, on),
+            opposed(set, fall, constant, 0, value),
+        );
+        k += 1;
+    }
+    Hits {
+        touched,
+        jump: by_jump,
+        fall: by_fall,
+    }
+}
+
+// So many of a block's effects as the 256 places still have.
+fn within(from: usize, own: usize) -> usize
+    requires { ⌜ from ≤ 256 ⌝ }
+    ensures { λ r. ⌜ Within 256 from own r ⌝ }
+{
+    let left = 256 - from;
+    if own < left { own } else { left }
 }

@@ -5,4 +5,5 @@ pub mod Loops
 pub mod Conditions
 pub mod PairTest
 pub mod Blocks
+pub mod Effects
 pub mod ConflictList

@@ -39,10 +39,11 @@ loop-less c = omega arith
 loop-again : tie.Need-loop-again Inv-loop μ-loop
 loop-again c =
     let at = c .before .before .before .before in
-    let a = at .before .before .args in
-    ( omega arith
-    , upto-more (λ k. bit (a .tests) k && eqb (getD (a .variable .now) k 0) (a .v)) _ _ _ _ (at .loop .inv .1)
-      (ap (λ (b : Bool). b && eqb (getD (a .variable .now) (at .loop .j) 0) (a .v)) (c .before .before .has .ensures)) (c .put .ensures) )
+    let a = at .before .before .args in (
+      omega arith,
+      upto-more (λ k. bit (a .tests) k && eqb (getD (a .variable .now) k 0) (a .v)) _ _ _ _ (at .loop .inv .1)
+          (ap (λ (b : Bool). b && eqb (getD (a .variable .now) (at .loop .j) 0) (a .v)) (c .before .before .has .ensures)) (c .put .ensures),
+    )
 
 returns : tie.Need-returns Inv-loop μ-loop
 returns c =

@@ -55,12 +55,13 @@ loop-again c =
     let at = c .before .before .before .before .before .before in
     let start = at .before .before in
     let a = start .args in
-    let fits : SFits w32 (getD (a .constants .now) (at .loop .j) (pos 0)) = record { sfits = c .before .before .opposed-if-arg .given } in
-    ( omega arith
-    , upto-more (λ k. bit (a .set) k && not (shares (a .relation) (toZ w32 (ofZ w32 (a .constant))) (getD (a .relations .now) k 0) (getD (a .constants .now) k (pos 0)))) _ _ _ _ (at .loop .inv .1)
-      ((rw (toZ-ofZ fits) at (c .before .opposed-if .ensures))
-      ∙ ap (λ (b : Bool). b && not (shares (a .relation) (toZ w32 (ofZ w32 (a .constant))) (getD (a .relations .now) (at .loop .j) 0) (getD (a .constants .now) (at .loop .j) (pos 0)))) (c .before .before .before .before .has .ensures))
-      (c .put .ensures) )
+    let fits : SFits w32 (getD (a .constants .now) (at .loop .j) (pos 0)) = record { sfits = c .before .before .opposed-if-arg .given } in (
+      omega arith,
+      upto-more (λ k. bit (a .set) k && not (shares (a .relation) (toZ w32 (ofZ w32 (a .constant))) (getD (a .relations .now) k 0) (getD (a .constants .now) k (pos 0)))) _ _ _ _ (at .loop .inv .1)
+          ((rw (toZ-ofZ fits) at (c .before .opposed-if .ensures))
+          ∙ ap (λ (b : Bool). b && not (shares (a .relation) (toZ w32 (ofZ w32 (a .constant))) (getD (a .relations .now) (at .loop .j) 0) (getD (a .constants .now) (at .loop .j) (pos 0)))) (c .before .before .before .before .has .ensures))
+          (c .put .ensures),
+    )
 
 returns : tie.Need-returns Inv-loop μ-loop
 returns c =

@@ -67,10 +67,11 @@ loop-again c =
     let start = c .before .before .before .before .before .before .before .before .before .before in
     let at = c .before .before .before .before .before .before .before .before .before in
     let size : length (start .args .t2) ≡ 64 = start .good .1 .0 .1 .0 .1 in
-    let own = c .before .before .before .before .before .before .own-block .ensures ∙ taken (start .args .count) (start .args .t2) (at .loop .i) _ noBlock (omega arith) in
-    ( omega arith
-    , told-more _ _ _ _ _ _ (omega arith) (at .loop .inv .1) (c .before .before .before .target .ensures ∙ ap jumpOf own)
-    , told-more _ _ _ _ _ _ (omega arith) (at .loop .inv .2) (c .target2 .ensures ∙ ap fallOf own) )
+    let own = c .before .before .before .before .before .before .own-block .ensures ∙ taken (start .args .count) (start .args .t2) (at .loop .i) _ noBlock (omega arith) in (
+      omega arith,
+      told-more _ _ _ _ _ _ (omega arith) (at .loop .inv .1) (c .before .before .before .target .ensures ∙ ap jumpOf own),
+      told-more _ _ _ _ _ _ (omega arith) (at .loop .inv .2) (c .target2 .ensures ∙ ap fallOf own),
+    )
 
 returns : tie.Need-returns Inv-loop μ-loop
 returns c =

@@ -77,27 +77,29 @@ loop-again c =
     let start = at .before in
     let size : length (start .args .t2) ≡ 64 = start .good .1 .0 .1 .0 .1 in
     let own = c .before .before .before .before .own-block .ensures ∙ taken (start .args .count) (start .args .t2) (at .loop .i) _ noBlock (omega arith) in
-    let fits : SFits w32 (c .before .before .before .before .own-block .result .constant) = record { sfits = c .struct-told .given .1 .1 .1 .1 .1 .1 .0 .1 } in
-    ( omega arith
-    , upto-more (λ k. eqb (blockIn (start .args .count) (start .args .t2) k .ending) 3) _ _ _ _ (at .loop .inv .1) (ap (λ (k : Block). eqb (k .ending) 3) own) (c .before .before .put .ensures)
-    , told-more _ _ _ _ _ _ (omega arith) (at .loop .inv .2) (ap (λ (k : Block). k .variable) own)
-    , told-more _ _ _ _ _ _ (omega arith) (at .loop .inv .3) (ap (λ (k : Block). k .relation) own)
-    , told-more _ _ _ _ _ _ (omega arith) (at .loop .inv .4) (c .before .opposite .ensures ∙ ap (λ (k : Block). opposite (k .relation)) own)
-    , told-more _ _ _ _ _ _ (omega arith) (at .loop .inv .5) (toZ-ofZ fits ∙ ap (λ (k : Block). k .constant) own) )
+    let fits : SFits w32 (c .before .before .before .before .own-block .result .constant) = record { sfits = c .struct-told .given .1 .1 .1 .1 .1 .1 .0 .1 } in (
+      omega arith,
+      upto-more (λ k. eqb (blockIn (start .args .count) (start .args .t2) k .ending) 3) _ _ _ _ (at .loop .inv .1) (ap (λ (k : Block). eqb (k .ending) 3) own) (c .before .before .put .ensures),
+      told-more _ _ _ _ _ _ (omega arith) (at .loop .inv .2) (ap (λ (k : Block). k .variable) own),
+      told-more _ _ _ _ _ _ (omega arith) (at .loop .inv .3) (ap (λ (k : Block). k .relation) own),
+      told-more _ _ _ _ _ _ (omega arith) (at .loop .inv .4) (c .before .opposite .ensures ∙ ap (λ (k : Block). opposite (k .relation)) own),
+      told-more _ _ _ _ _ _ (omega arith) (at .loop .inv .5) (toZ-ofZ fits ∙ ap (λ (k : Block). k .constant) own),
+    )
 
 returns : tie.Need-returns Inv-loop μ-loop
 returns c =
     let done = c .before .loop .inv in
     let start = c .before .before in
     let size : length (start .args .t2) ≡ 64 = start .good .1 .0 .1 .0 .1 in
-    record
-    { tests =
-      upto-end (λ k. eqb (blockIn (start .args .count) (start .args .t2) k .ending) 3) _ _
-      (λ j l. ap (λ (k : Block). eqb (k .ending) 3) (beyond (take (start .args .count) (start .args .t2)) j noBlock (omega (arith, length-take (start .args .count) (start .args .t2), c .loop-test .left)))) (done .1)
-    ; variables = told-end _ _ _ _ _ (c .loop-test .left) (done .2)
-    ; jumps = told-end _ _ _ _ _ (c .loop-test .left) (done .3)
-    ; falls = told-end _ _ _ _ _ (c .loop-test .left) (done .4)
-    ; constants = told-end _ _ _ _ _ (c .loop-test .left) (done .5) }
+    record {
+      tests =
+          upto-end (λ k. eqb (blockIn (start .args .count) (start .args .t2) k .ending) 3) _ _
+          (λ j l. ap (λ (k : Block). eqb (k .ending) 3) (beyond (take (start .args .count) (start .args .t2)) j noBlock (omega (arith, length-take (start .args .count) (start .args .t2), c .loop-test .left)))) (done .1);
+      variables = told-end _ _ _ _ _ (c .loop-test .left) (done .2);
+      jumps = told-end _ _ _ _ _ (c .loop-test .left) (done .3);
+      falls = told-end _ _ _ _ _ (c .loop-test .left) (done .4);
+      constants = told-end _ _ _ _ _ (c .loop-test .left) (done .5);
+    }
 
 pub tests-of-spec : {M : Type 1} → statement M
 tests-of-spec =
