@@ -2,7 +2,7 @@
 // meaning of each is in specs/ and in form's Conflict.
 ghost use mathlib.Core.Path.{_≡_};
 ghost use mathlib.Core.Bool.{_&&_, _||_, not};
-ghost use Prim.Native.Nat.{ℕ, _+_, _≤_};
+ghost use Prim.Native.Nat.{ℕ, _+_, _≤_, _<_};
 ghost use lib.Dec.{eqb, ltb};
 ghost use lib.ListN.{length, getD, take, drop};
 ghost use lib.IntN.{ℤ, pos, _-ℤ_};
@@ -12,9 +12,10 @@ ghost use Rattle.form.specs.Form.{when};
 ghost use Rattle.form.specs.Conflict.{noBlock};
 ghost use Rattle.form.specs.Relation.{eqZ, opposite};
 ghost use Rattle.relations.specs.PairTest.{low, level, high, apart, someOf, shares};
+ghost use Rattle.words.specs.Filled.{Told};
 ghost use Rattle.relations.specs.Effects.{Within};
 ghost use Rattle.conflict.specs.Pair.{conflicting};
-ghost use Rattle.conflict.specs.Parts.{blockIn, TestsOf, target, TargetsOf, Sizes, HitsOf};
+ghost use Rattle.conflict.specs.Parts.{blockIn, withParts, TestsOf, target, TargetsOf, Sizes, HitsOf, EffectRowsOf, AlikeAt, OpposedAt, EitherAt, ListedAt, Above, ReachOf, FirstsOf};
 
 // ---- the pair test: constants are compared, never subtracted
 
@@ -305,4 +306,155 @@ fn within(from: usize, own: usize) -> usize
 {
     let left = 256 - from;
     if own < left { own } else { left }
+}
+
+// For each block, the tests that it touches and the edges that its effects deny.
+struct EffectRows {
+    touched: [u64; 64],
+    jump: [u64; 64],
+    fall: [u64; 64],
+}
+
+// The blocks from which a jump, and those from which a fall, leads to a clean path.
+struct Reach {
+    jump: u64,
+    fall: u64,
+}
+
+// For each block's edge by one way, the blocks that the conflict list pairs with it as firsts: by assignment, by their jump edge and by their fall edge.
+struct Firsts {
+    assigned: [u64; 64],
+    jump: [u64; 64],
+    fall: [u64; 64],
+}
+
+fn effect_rows(count: usize, blocks: [form::Block; 64], effects: [form::Effect; 256], tests: u64, variable: &[u8], jump: &[u8], fall: &[u8], constant: &[i32]) -> EffectRows
+    requires { ⌜ Sizes (now variable) (now jump) (now fall) (now constant) ⌝ }
+    ensures { λ r. ⌜ EffectRowsOf (withParts count blocks effects) tests (now (variable .entry)) (now (jump .entry)) (now (fall .entry)) (now (constant .entry)) r ⌝ }
+{
+    let mut touched = [0; 64];
+    let mut by_jump = [0; 64];
+    let mut by_fall = [0; 64];
+    let mut from = 0;
+    let mut b = 0;
+    while b < 64 {
+        let k = own_block(count, b, blocks[b]);
+        let own = within(from, k.effects);
+        let h = hits_of(tests, variable, jump, fall, constant, effects, from, own);
+        touched[b] = h.touched;
+        by_jump[b] = h.jump;
+        by_fall[b] = h.fall;
+        from += own;
+        b += 1;
+    }
+    EffectRows {
+        touched,
+        jump: by_jump,
+        fall: by_fall,
+    }
+}
+
+fn alike_rows(tests: u64, variable: &[u8]) -> [u64; 64]
+    requires { ⌜ length (now variable) ≡ 64 ⌝ }
+    ensures { λ r. ⌜ Told 0 (AlikeAt tests (now (variable .entry))) 64 64 r ⌝ }
+{
+    let mut r = [0; 64];
+    let mut b = 0;
+    while b < 64 {
+        r[b] = words::only(words::has(tests, b), on_variable(tests, variable, variable[b]));
+        b += 1;
+    }
+    r
+}
+
+fn opposed_rows(alike: &[u64], first: &[u8], second: &[u8], constant: &[i32]) -> [u64; 64]
+    requires { ⌜ (length (now alike) ≡ 64) × Sizes (now first) (now first) (now second) (now constant) ⌝ }
+    ensures { λ r. ⌜ Told 0 (OpposedAt (now (alike .entry)) (now (first .entry)) (now (second .entry)) (now (constant .entry))) 64 64 r ⌝ }
+{
+    let mut r = [0; 64];
+    let mut b = 0;
+    while b < 64 {
+        let value = constant[b];
+        r[b] = opposed(alike[b], second, constant, first[b], value);
+        b += 1;
+    }
+    r
+}
+
+// From which blocks a jump or a fall leads to s by a path that does not touch test s: the blocks from s down.
+fn reach_of(jump: &[usize], fall: &[usize], touched: &[u64], s: usize) -> Reach
+    requires { ⌜ ((length (now jump) ≡ 64) × ((length (now fall) ≡ 64) × (length (now touched) ≡ 64))) × ((s < 64) × (Above (now jump) × Above (now fall))) ⌝ }
+    ensures { λ r. ⌜ ReachOf (now (jump .entry)) (now (fall .entry)) (now (touched .entry)) s r ⌝ }
+{
+    let mut clean = 0;
+    let mut by_jump = 0;
+    let mut by_fall = 0;
+    let mut b = s + 1;
+    while b > 0 {
+        b -= 1;
+        let j = words::has(clean, jump[b]);
+        let f = words::has(clean, fall[b]);
+        let t = words::has(touched[b], s);
+        by_jump = words::put(by_jump, b, j);
+        by_fall = words::put(by_fall, b, f);
+        clean = words::put(clean, b, !t & ((b == s) | (j | f)));
+    }
+    Reach {
+        jump: by_jump,
+        fall: by_fall,
+    }
+}
+
+// All firsts of each edge.
+fn all_firsts(assigned: &[u64], jump: &[u64], fall: &[u64]) -> [u64; 64]
+    requires { ⌜ (length (now assigned) ≡ 64) × ((length (now jump) ≡ 64) × (length (now fall) ≡ 64)) ⌝ }
+    ensures { λ r. ⌜ Told 0 (EitherAt (now (assigned .entry)) (now (jump .entry)) (now (fall .entry))) 64 64 r ⌝ }
+{
+    let mut r = [0; 64];
+    let mut s = 0;
+    while s < 64 {
+        r[s] = words::either(assigned[s], words::either(jump[s], fall[s]));
+        s += 1;
+    }
+    r
+}
+
+// For each b, those that have a first below b.
+fn listed_rows(firsts: &[u64]) -> [u64; 64]
+    requires { ⌜ length (now firsts) ≡ 64 ⌝ }
+    ensures { λ r. ⌜ Told 0 (ListedAt (now (firsts .entry))) 64 64 r ⌝ }
+{
+    let mut r = [0; 64];
+    let mut all = 0;
+    let mut b = 0;
+    while b < 64 {
+        r[b] = all;
+        all = words::either(all, column(firsts, b));
+        b += 1;
+    }
+    r
+}
+
+// The firsts of the edges by one way, from the edges that each block's effects deny and those that each edge opposes, by jump and by fall.
+fn firsts_of(jump: &[usize], fall: &[usize], touched: &[u64], denied: &[u64], jumping: &[u64], falling: &[u64]) -> Firsts
+    requires { ⌜ ((length (now jump) ≡ 64) × ((length (now fall) ≡ 64) × (length (now touched) ≡ 64))) × (((length (now denied) ≡ 64) × ((length (now jumping) ≡ 64) × (length (now falling) ≡ 64))) × (Above (now jump) × Above (now fall))) ⌝ }
+    ensures { λ r. ⌜ FirstsOf (now (jump .entry)) (now (fall .entry)) (now (touched .entry)) (now (denied .entry)) (now (jumping .entry)) (now (falling .entry)) r ⌝ }
+{
+    let mut assigned = [0; 64];
+    let mut jumps = [0; 64];
+    let mut falls = [0; 64];
+    let mut s = 0;
+    while s < 64 {
+        let r = reach_of(jump, fall, touched, s);
+        let near = words::with(words::either(r.jump, r.fall), s);
+        assigned[s] = words::both(column(denied, s), near);
+        jumps[s] = words::both(jumping[s], r.jump);
+        falls[s] = words::both(falling[s], r.fall);
+        s += 1;
+    }
+    Firsts {
+        assigned,
+        jump: jumps,
+        fall: falls,
+    }
 }

@@ -54,16 +54,16 @@ module _ {A : Type 0} where
   drop-all (suc n) [] h = refl
   drop-all (suc n) (x ∷ l) h = drop-all n l (omega arith)
 
-  pub own-part : (l : List A) (below from own r : ℕ) → Reached (length l) below from → Within (length l) from own r → take r (drop from l) ≡ take own (drop below l)
-  own-part l below from own r g w = go g (w .all)
+  pub own-part : (l : List A) (n below from own r : ℕ) → length l ≡ n → Reached n below from → Within n from own r → take r (drop from l) ≡ take own (drop below l)
+  own-part l n below from own r size g w = go g (w .all)
     where
       whole : (a b : ℕ) → length (drop from l) ≤ a → length (drop from l) ≤ b → take a (drop from l) ≡ take b (drop from l)
       whole a b h k = take-all a (drop from l) h ∙ sym (take-all b (drop from l) k)
 
-      go : Reached (length l) below from → (r ≡ own) ⊎ (from + r ≡ length l) → take r (drop from l) ≡ take own (drop below l)
+      go : Reached n below from → (r ≡ own) ⊎ (from + r ≡ n) → take r (drop from l) ≡ take own (drop below l)
       go (inl e) (inl q) = rw (← e, q)
       go (inl e) (inr q) = rw (← e) (whole r own (omega (arith, length-drop from l)) (omega (arith, length-drop from l, w .few)))
-      go (inr e) p = rw (drop-all from l (omega (arith, e .0)), drop-all below l (e .1), take-nil {A = A} r, take-nil {A = A} own)
+      go (inr e) p = rw (drop-all from l (omega (arith, e .0)), drop-all below l (omega (arith, e .1)), take-nil {A = A} r, take-nil {A = A} own)
 
 pub last-more : (v : ℕ) (l : List Effect) (a : Effect) → lastOn v (l ++ (a ∷ [])) ≡ later (lastOn v l) (cond (eqb (a .variable) v) (some a) none)
 unfolding lastOn

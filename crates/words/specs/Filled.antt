@@ -1,15 +1,16 @@
 -- Loops that fill a word bit by bit, upward or downward, and a list place by place: where the loop stands, its start, its turn and its end. Rests on Sets.
 use mathlib.Core.Path.{_≡_, refl, sym, ap, ap₂, _∙_, subst}
 use mathlib.Core.Logic.{_⊎_, inl, inr}
-use mathlib.Core.Bool.{Bool, true, false, not, _&&_, _||_, and-true, and-false, or-false}
+use mathlib.Core.Bool.{Bool, true, false, not, _&&_, _||_, and-true, and-false, or-false, or-assoc}
 use mathlib.Core.List.{List}
 use Prim.Native.Nat.{ℕ, zero, suc, _+_, _-_, _^_, _≤_, _<_}
+use native.Mathlib.Numerals.{add-one}
 use native.Mathlib.Omega.{arith}
 use borrow.Author.Tests.{eqb-true, eqb-false, eq-eqb, ne-eqb, ltb-true, ltb-false, lt-ltb, le-ltb, le-leb, lt-leb, leb-true, leb-false}
 use lib.Dec.{eqb, ltb, leb}
 use lib.ListN.{length, getD, set, length-set}
 use lib.Seq.{getD-set-same, getD-set-other}
-use Rattle.laws.specs.Terms.{bit}
+use Rattle.laws.specs.Terms.{bit, any}
 use Rattle.laws.specs.Tests.{split}
 use Rattle.laws.specs.Sets.{bit-none, bit-beyond}
 
@@ -63,6 +64,14 @@ module _ (f : ℕ → Bool) where
 
   pub downto-end : (w : ℕ) → Downto 0 w → (j : ℕ) → bit w j ≡ f j
   downto-end w inv j = inv j ∙ rw (le-leb 0 j (omega arith))
+
+-- for some number below n + 1: below n, or n itself
+pub any-last : (n : ℕ) (f : ℕ → Bool) → any (n + 1) f ≡ (any n f || f n)
+any-last n f = rw (add-one n) (go n f)
+  where
+    go : (n : ℕ) (f : ℕ → Bool) → any (suc n) f ≡ (any n f || f n)
+    go zero f = or-false (f 0)
+    go (suc n) f = ap (λ b. f 0 || b) (go n (λ i. f (suc i))) ∙ sym (or-assoc (f 0) (any n (λ i. f (suc i))) (f (suc n)))
 
 -- a list of n places that tells what it should at those below i
 pub record Told {A : Type 0} (z : A) (P : ℕ → A → Type 0) (n i : ℕ) (l : List A) : Type 0 where

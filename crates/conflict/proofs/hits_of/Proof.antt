@@ -86,12 +86,12 @@ loop-again c =
       omega arith,
       rw (take-next (start .args .t6) (start .args .from) (at .loop .k) zeroEffect (omega (arith, start .pre)))
           (record {
-            touched = touched-more (start .args .tests) v [] [] (start .args .constant .now) a _ _ (on .on-variable .ensures) (only .only .ensures) done _ _ (was .touched) (opposed .before .before .either .ensures);
+            touched = touched-more (start .args .tests) v (start .args .constant .now) a _ _ (on .on-variable .ensures) (only .only .ensures) done _ _ (was .touched) (opposed .before .before .either .ensures);
             jumps =
-                denied-more (start .args .tests) v [] [] (start .args .constant .now) a _ _ (on .on-variable .ensures) (only .only .ensures) done (start .args .jump .now) _ _ _ _ (was .jumps)
+                denied-more (start .args .tests) v (start .args .constant .now) a _ _ (on .on-variable .ensures) (only .only .ensures) done (start .args .jump .now) _ _ _ _ (was .jumps)
                 (opposed .before .less .ensures) (rw (toZ-ofZ value) at (opposed .opposed .ensures)) (c .before .before .before .either2 .ensures);
             falls =
-                denied-more (start .args .tests) v [] [] (start .args .constant .now) a _ _ (on .on-variable .ensures) (only .only .ensures) done (start .args .fall .now) _ _ _ _ (was .falls)
+                denied-more (start .args .tests) v (start .args .constant .now) a _ _ (on .on-variable .ensures) (only .only .ensures) done (start .args .fall .now) _ _ _ _ (was .falls)
                 (c .before .before .less2 .ensures) (rw (toZ-ofZ value) at (c .before .opposed2 .ensures)) (c .either3 .ensures);
           }),
     )
