@@ -2,3 +2,4 @@
 pub mod Pair
 pub mod Parts
 pub mod Turns
+pub mod Reaching

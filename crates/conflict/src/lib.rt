@@ -328,7 +328,16 @@ struct Firsts {
     fall: [u64; 64],
 }
 
-fn effect_rows(count: usize, blocks: [form::Block; 64], effects: [form::Effect; 256], tests: u64, variable: &[u8], jump: &[u8], fall: &[u8], constant: &[i32]) -> EffectRows
+fn effect_rows(
+    count: usize,
+    blocks: [form::Block; 64],
+    effects: [form::Effect; 256],
+    tests: u64,
+    variable: &[u8],
+    jump: &[u8],
+    fall: &[u8],
+    constant: &[i32],
+) -> EffectRows
     requires { ⌜ Sizes (now variable) (now jump) (now fall) (now constant) ⌝ }
     ensures { λ r. ⌜ EffectRowsOf (withParts count blocks effects) tests (now (variable .entry)) (now (jump .entry)) (now (fall .entry)) (now (constant .entry)) r ⌝ }
 {
@@ -361,7 +370,10 @@ fn alike_rows(tests: u64, variable: &[u8]) -> [u64; 64]
     let mut r = [0; 64];
     let mut b = 0;
     while b < 64 {
-        r[b] = words::only(words::has(tests, b), on_variable(tests, variable, variable[b]));
+        r[b] = words::only(
+            words::has(tests, b),
+            on_variable(tests, variable, variable[b]),
+        );
         b += 1;
     }
     r
@@ -436,7 +448,14 @@ fn listed_rows(firsts: &[u64]) -> [u64; 64]
 }
 
 // The firsts of the edges by one way, from the edges that each block's effects deny and those that each edge opposes, by jump and by fall.
-fn firsts_of(jump: &[usize], fall: &[usize], touched: &[u64], denied: &[u64], jumping: &[u64], falling: &[u64]) -> Firsts
+fn firsts_of(
+    jump: &[usize],
+    fall: &[usize],
+    touched: &[u64],
+    denied: &[u64],
+    jumping: &[u64],
+    falling: &[u64],
+) -> Firsts
     requires { ⌜ ((length (now jump) ≡ 64) × ((length (now fall) ≡ 64) × (length (now touched) ≡ 64))) × (((length (now denied) ≡ 64) × ((length (now jumping) ≡ 64) × (length (now falling) ≡ 64))) × (Above (now jump) × Above (now fall))) ⌝ }
     ensures { λ r. ⌜ FirstsOf (now (jump .entry)) (now (fall .entry)) (now (touched .entry)) (now (denied .entry)) (now (jumping .entry)) (now (falling .entry)) r ⌝ }
 {

@@ -52,9 +52,10 @@ loop-less c = omega arith
 loop-again : tie.Need-loop-again Inv-loop μ-loop
 loop-again c =
     let on = c .before in
-    let at = on .before .before .before .before in
-    ( omega arith
-    , told-more _ _ _ _ _ _ (omega arith) (at .loop .inv .1) (λ j. c .only .ensures j ∙ ap₂ _&&_ (on .before .before .has .ensures) (on .on-variable .ensures j)) )
+    let at = on .before .before .before .before in (
+      omega arith,
+      told-more _ _ _ _ _ _ (omega arith) (at .loop .inv .1) (λ j. c .only .ensures j ∙ ap₂ _&&_ (on .before .before .has .ensures) (on .on-variable .ensures j)),
+    )
 
 returns : tie.Need-returns Inv-loop μ-loop
 returns c = told-end _ _ _ _ _ (c .loop-test .left) (c .before .loop .inv .1)

@@ -92,21 +92,24 @@ loop-again c =
     let all : length (a .effects) ≡ 256 = start .good .1 .1 .0 .1 .0 .1 in
     let own = within .before .own-block .ensures ∙ taken (a .count) (a .t2) (at .loop .b) _ noBlock (omega arith) in
     let hits =
-        subst (λ (l : List Effect). HitsOf (a .tests) (a .variable .now) (a .jump .now) (a .fall .now) (a .constant .now) l (c .hits-of .result))
-        (own-effects (a .count) (a .t2) (a .effects) (at .loop .b) (at .loop .from) _ _ own (within .within .ensures) (i .2) all) (c .hits-of .ensures) in
-    ( omega arith
-    , omega (arith, within .within .ensures .room)
-    , next-effects (a .count) (a .t2) (a .effects) (at .loop .b) (at .loop .from) _ _ own (within .within .ensures) (i .2)
-    , told-more _ _ _ _ _ _ (omega arith) (i .3) (hits .touched)
-    , told-more _ _ _ _ _ _ (omega arith) (i .4) (hits .jumps)
-    , told-more _ _ _ _ _ _ (omega arith) (i .5) (hits .falls) )
+    subst (λ (l : List Effect). HitsOf (a .tests) (a .variable .now) (a .jump .now) (a .fall .now) (a .constant .now) l (c .hits-of .result))
+    (own-effects (a .count) (a .t2) (a .effects) (at .loop .b) (at .loop .from) _ _ own (within .within .ensures) (i .2) all) (c .hits-of .ensures) in (
+      omega arith,
+      omega (arith, within .within .ensures .room),
+      next-effects (a .count) (a .t2) (a .effects) (at .loop .b) (at .loop .from) _ _ own (within .within .ensures) (i .2),
+      told-more _ _ _ _ _ _ (omega arith) (i .3) (hits .touched),
+      told-more _ _ _ _ _ _ (omega arith) (i .4) (hits .jumps),
+      told-more _ _ _ _ _ _ (omega arith) (i .5) (hits .falls),
+    )
 
 returns : tie.Need-returns Inv-loop μ-loop
 returns c =
     let done = c .before .loop .inv in
-    record
-    { touched = told-end _ _ _ _ _ (c .loop-test .left) (done .3); jumps = told-end _ _ _ _ _ (c .loop-test .left) (done .4)
-    ; falls = told-end _ _ _ _ _ (c .loop-test .left) (done .5) }
+    record {
+      touched = told-end _ _ _ _ _ (c .loop-test .left) (done .3);
+      jumps = told-end _ _ _ _ _ (c .loop-test .left) (done .4);
+      falls = told-end _ _ _ _ _ (c .loop-test .left) (done .5);
+    }
 
 pub effect-rows-spec : {M : Type 1} → statement M
 effect-rows-spec =

@@ -1,108 +1,113 @@
+-- `conflict::firsts_of` meets its contract. The loop's invariant: the rows below s are right. The measure is what is left of the 64.
+use mathlib.Core.Path.{_≡_, refl, ap, ap₂, _∙_}
+use mathlib.Core.Bool.{Bool, _&&_, _||_}
+use Prim.Native.Nat.{ℕ, _-_, _≤_}
+use native.Mathlib.Omega.{arith}
+use lib.Dec.{eqb}
+use lib.ListN.{getD}
+use Rattle.laws.specs.Terms.{bit}
+use Rattle.words.specs.Filled.{Told, told-none, told-more, told-end}
+use Rattle.conflict.specs.Parts.{AssignedAt, ByJumpAt, ByFallAt}
+use borrow.Author.Needs.{needs}
 use Rattle.conflict.proofs.firsts_of.Statement.{statement}
 use Rattle.conflict.proofs.firsts_of.Tie as tie
-use Rattle.conflict.proofs.firsts_of.Reads as reads
-use Rattle.conflict.proofs.firsts_of.Lts as lts
-use Rattle.conflict.proofs.column.Reads as column-reads
-use Rattle.conflict.proofs.reach_of.Reads as reach-of-reads
-use Rattle.words.proofs.both.Reads as both-reads
-use Rattle.words.proofs.either.Reads as either-reads
-use Rattle.words.proofs.with.Reads as with-reads
 
 abbrev Inv-loop : tie.InvT-loop
 Inv-loop jump fall touched denied jumping falling assigned₀ jumps₀ falls₀ s₀ assigned jumps falls s =
-    ?
+    (s ≤ 64)
+    × Told 0 (AssignedAt jump fall touched denied) 64 s assigned
+    × Told 0 (ByJumpAt jump fall touched jumping) 64 s jumps
+    × Told 0 (ByFallAt jump fall touched falling) 64 s falls
 
 abbrev μ-loop : tie.MeasureT-loop
-μ-loop jump fall touched denied jumping falling assigned₀ jumps₀ falls₀ s₀ assigned jumps falls s =
-    ?
+μ-loop jump fall touched denied jumping falling assigned₀ jumps₀ falls₀ s₀ assigned jumps falls s = 64 - s
 
--- src/lib.rt:447:5
 loop-holds : tie.Need-loop-holds Inv-loop μ-loop
-loop-holds c = ?
+loop-holds c = (omega arith, told-none _ _ _ _ refl, told-none _ _ _ _ refl, told-none _ _ _ _ refl)
 
--- src/lib.rt:448:13
 reach-of-requires : tie.Need-reach-of-requires Inv-loop μ-loop
-reach-of-requires c κs = ?
+reach-of-requires c κs = let p = c .before .before .before .before .before .before .before .before .pre in (p .0, (omega arith, p .1 .1))
 
--- src/lib.rt:449:32
 either-requires : tie.Need-either-requires Inv-loop μ-loop
-either-requires c κs = ?
+either-requires c κs = search needs
 
--- src/lib.rt:449:13
 with-requires : tie.Need-with-requires Inv-loop μ-loop
-with-requires c κs = ?
+with-requires c κs = omega arith
 
--- src/lib.rt:450:35
 column-requires : tie.Need-column-requires Inv-loop μ-loop
-column-requires c κs = ?
+column-requires c κs = c .before .before .before .before .before .before .before .before .before .before .before .pre .1 .0 .0
 
--- src/lib.rt:450:23
 both-requires : tie.Need-both-requires Inv-loop μ-loop
-both-requires c κs = ?
+both-requires c κs = search needs
 
--- src/lib.rt:450:9
 mul-assigned : tie.Need-mul-assigned Inv-loop μ-loop
-mul-assigned c = ?
+mul-assigned c = omega arith
 
--- src/lib.rt:450:9
 array-write-assigned : tie.Need-array-write-assigned Inv-loop μ-loop
-array-write-assigned c = ?
+array-write-assigned c = omega arith
 
--- src/lib.rt:451:32
 mul-both : tie.Need-mul-both Inv-loop μ-loop
-mul-both c = ?
+mul-both c = omega arith
 
--- src/lib.rt:451:32
 shared-slice-read-both : tie.Need-shared-slice-read-both Inv-loop μ-loop
-shared-slice-read-both c = ?
+shared-slice-read-both c = omega arith
 
--- src/lib.rt:451:20
 both-requires-2 : tie.Need-both-requires-2 Inv-loop μ-loop
-both-requires-2 c κs = ?
+both-requires-2 c κs = search needs
 
--- src/lib.rt:451:9
 mul-jumps : tie.Need-mul-jumps Inv-loop μ-loop
-mul-jumps c = ?
+mul-jumps c = omega arith
 
--- src/lib.rt:451:9
 array-write-jumps : tie.Need-array-write-jumps Inv-loop μ-loop
-array-write-jumps c = ?
+array-write-jumps c = omega arith
 
--- src/lib.rt:452:32
 mul-both-2 : tie.Need-mul-both-2 Inv-loop μ-loop
-mul-both-2 c = ?
+mul-both-2 c = omega arith
 
--- src/lib.rt:452:32
 shared-slice-read-both-2 : tie.Need-shared-slice-read-both-2 Inv-loop μ-loop
-shared-slice-read-both-2 c = ?
+shared-slice-read-both-2 c = omega arith
 
--- src/lib.rt:452:20
 both-requires-3 : tie.Need-both-requires-3 Inv-loop μ-loop
-both-requires-3 c κs = ?
+both-requires-3 c κs = search needs
 
--- src/lib.rt:452:9
 mul-falls : tie.Need-mul-falls Inv-loop μ-loop
-mul-falls c = ?
+mul-falls c = omega arith
 
--- src/lib.rt:452:9
 array-write-falls : tie.Need-array-write-falls Inv-loop μ-loop
-array-write-falls c = ?
+array-write-falls c = omega arith
 
--- src/lib.rt:453:9
 add-s : tie.Need-add-s Inv-loop μ-loop
-add-s c = ?
+add-s c = omega arith
 
--- src/lib.rt:447:5
 loop-less : tie.Need-loop-less Inv-loop μ-loop
-loop-less c = ?
+loop-less c = omega arith
 
--- src/lib.rt:447:5
 loop-again : tie.Need-loop-again Inv-loop μ-loop
-loop-again c = ?
+loop-again c =
+    let both = c .before .before .before .before in
+    let found = both .before .before .before .before in
+    let at = found .before .before in
+    let reached = found .reach-of .ensures in (
+      omega arith,
+      told-more _ _ _ _ _ _ (omega arith) (at .loop .inv .1)
+          (record {
+            reach = found .reach-of .result;
+            reached = reached;
+            bits =
+                λ j. both .both .ensures j ∙ ap₂ _&&_ (both .before .column .ensures j) (both .before .before .with .ensures j ∙ ap (λ (b : Bool). b || eqb j (at .loop .s)) (both .before .before .before .either .ensures j));
+          }),
+      told-more _ _ _ _ _ _ (omega arith) (at .loop .inv .2) (record { reach = found .reach-of .result; reached = reached; bits = c .before .before .both2 .ensures }),
+      told-more _ _ _ _ _ _ (omega arith) (at .loop .inv .3) (record { reach = found .reach-of .result; reached = reached; bits = c .both3 .ensures }),
+    )
 
--- src/lib.rt:439:1
 returns : tie.Need-returns Inv-loop μ-loop
-returns c = ?
+returns c =
+    let done = c .before .loop .inv in
+    record {
+      assigned = told-end _ _ _ _ _ (c .loop-test .left) (done .1);
+      jumps = told-end _ _ _ _ _ (c .loop-test .left) (done .2);
+      falls = told-end _ _ _ _ _ (c .loop-test .left) (done .3);
+    }
 
 pub firsts-of-spec : {M : Type 1} → statement M
 firsts-of-spec =

@@ -47,10 +47,11 @@ loop-less c = omega arith
 loop-again : tie.Need-loop-again Inv-loop μ-loop
 loop-again c =
     let at = c .before .before .before in
-    let firsts = at .before .before .args .firsts .now in
-    ( omega arith
-    , told-more _ _ _ _ _ _ (omega arith) (at .loop .inv .1) (at .loop .inv .2)
-    , λ j. c .either .ensures j ∙ ap₂ _||_ (at .loop .inv .2 j) (c .before .column .ensures j) ∙ sym (any-last (at .loop .b) (λ f. bit (getD firsts j 0) f)) )
+    let firsts = at .before .before .args .firsts .now in (
+      omega arith,
+      told-more _ _ _ _ _ _ (omega arith) (at .loop .inv .1) (at .loop .inv .2),
+      λ j. c .either .ensures j ∙ ap₂ _||_ (at .loop .inv .2 j) (c .before .column .ensures j) ∙ sym (any-last (at .loop .b) (λ f. bit (getD firsts j 0) f)),
+    )
 
 returns : tie.Need-returns Inv-loop μ-loop
 returns c = told-end _ _ _ _ _ (c .loop-test .left) (c .before .loop .inv .1)

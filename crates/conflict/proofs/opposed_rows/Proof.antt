@@ -58,9 +58,10 @@ loop-again : tie.Need-loop-again Inv-loop μ-loop
 loop-again c =
     let at = c .before .before .before .before .before in
     let a = at .before .before .before .before .args in
-    let value : SFits w32 (getD (a .constant .now) (at .loop .b) (pos 0)) = record { sfits = c .before .before .before .value .given } in
-    ( omega arith
-    , told-more _ _ _ _ _ _ (omega arith) (at .loop .inv .1) (rw (toZ-ofZ value) at (c .opposed .ensures)) )
+    let value : SFits w32 (getD (a .constant .now) (at .loop .b) (pos 0)) = record { sfits = c .before .before .before .value .given } in (
+      omega arith,
+      told-more _ _ _ _ _ _ (omega arith) (at .loop .inv .1) (rw (toZ-ofZ value) at (c .opposed .ensures)),
+    )
 
 returns : tie.Need-returns Inv-loop μ-loop
 returns c = told-end _ _ _ _ _ (c .loop-test .left) (c .before .loop .inv .1)
