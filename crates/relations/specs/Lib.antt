@@ -7,3 +7,4 @@ pub mod PairTest
 pub mod Blocks
 pub mod Effects
 pub mod ConflictList
+pub mod Joined
