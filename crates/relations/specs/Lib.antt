@@ -8,3 +8,4 @@ pub mod Blocks
 pub mod Effects
 pub mod ConflictList
 pub mod Joined
+pub mod Accepted
