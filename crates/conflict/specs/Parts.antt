@@ -11,16 +11,22 @@ use Rattle.words.specs.Filled.{Told}
 use Rattle.form.specs.declared.Body.{Body}
 use Rattle.form.specs.declared.Block.{Block}
 use Rattle.form.specs.declared.Effect.{Effect}
-use Rattle.form.specs.Form.{when, zeroCounter}
+use Rattle.form.specs.Form.{zeroCounter}
 use Rattle.form.specs.Relation.{opposite}
-use Rattle.form.specs.Conflict.{Condition, noBlock, effectsOf, refuses, lastOn}
+use Rattle.form.specs.Conflict.{Condition, noBlock, block, effectsOf, refuses, lastOn, opposes, assigned}
 use Rattle.relations.specs.PairTest.{shares}
+use Rattle.relations.specs.Joined.{jumpOf, fallOf, byJump, byFall}
 use Rattle.conflict.specs.declared.Tests.{Tests}
 use Rattle.conflict.specs.declared.Targets.{Targets}
 use Rattle.conflict.specs.declared.Hits.{Hits}
 use Rattle.conflict.specs.declared.EffectRows.{EffectRows}
 use Rattle.conflict.specs.declared.Reach.{Reach}
 use Rattle.conflict.specs.declared.Firsts.{Firsts}
+use Rattle.conflict.specs.declared.Edges.{Edges}
+use Rattle.conflict.specs.declared.Sets.{Sets}
+use Rattle.conflict.specs.declared.Opposition.{Opposition}
+use Rattle.conflict.specs.declared.Found.{Found}
+use Rattle.conflict.specs.Sets.{setsOf}
 
 -- block k of the first `count` of a list
 abbrev pub blockIn : ℕ → List Block → ℕ → Block
@@ -37,16 +43,6 @@ pub record TestsOf (block : ℕ → Block) (t : Tests) : Type 0 where
   pub jumps : Told 0 (λ k x. x ≡ block k .relation) 64 64 (t .jump)
   pub falls : Told 0 (λ k x. x ≡ opposite (block k .relation)) 64 64 (t .fall)
   pub constants : Told (pos 0) (λ k x. x ≡ block k .constant) 64 64 (t .constant)
-
--- where the ways of a block lead; 64 stands for no such way
-abbrev pub target : Bool → ℕ → ℕ
-target has to = when has to 64
-
-abbrev pub jumpOf : Block → ℕ
-jumpOf k = target (ltb 0 (k .ending) && ltb (k .ending) 4) (k .jump)
-
-abbrev pub fallOf : Block → ℕ
-fallOf k = target (ltb 1 (k .ending) && ltb (k .ending) 4) (k .fall)
 
 pub record TargetsOf (block : ℕ → Block) (t : Targets) : Type 0 where
   pub jumps : Told 64 (λ k x. x ≡ jumpOf (block k)) 64 64 (t .jump)
@@ -134,3 +130,34 @@ pub record FirstsOf (jump fall touched denied jumping falling : List ℕ) (p : F
   pub assigned : Told 0 (AssignedAt jump fall touched denied) 64 64 (p .assigned)
   pub jumps : Told 0 (ByJumpAt jump fall touched jumping) 64 64 (p .jump)
   pub falls : Told 0 (ByFallAt jump fall touched falling) 64 64 (p .fall)
+
+-- the edges that each test's edges oppose, by both ways of both
+pub record OpposedOf (tests : ℕ) (variable jump fall : List ℕ) (constant : List ℤ) (r : Opposition) : Type 0 where
+  pub alike : List ℕ
+  pub alikes : Told 0 (AlikeAt tests variable) 64 64 alike
+  pub jump-jump : Told 0 (OpposedAt alike jump jump constant) 64 64 (r .jumping .jump)
+  pub jump-fall : Told 0 (OpposedAt alike jump fall constant) 64 64 (r .jumping .fall)
+  pub fall-jump : Told 0 (OpposedAt alike fall jump constant) 64 64 (r .falling .jump)
+  pub fall-fall : Told 0 (OpposedAt alike fall fall constant) 64 64 (r .falling .fall)
+
+-- for each b, the edges that have a first below b
+pub record ListedOf (jumped fallen : Firsts) (r : Edges) : Type 0 where
+  pub by-jump : List ℕ
+  pub by-fall : List ℕ
+  pub all-jump : Told 0 (EitherAt (jumped .assigned) (jumped .jump) (jumped .fall)) 64 64 by-jump
+  pub all-fall : Told 0 (EitherAt (fallen .assigned) (fallen .jump) (fallen .fall)) 64 64 by-fall
+  pub jumps : Told 0 (ListedAt by-jump) 64 64 (r .jump)
+  pub falls : Told 0 (ListedAt by-fall) 64 64 (r .fall)
+
+-- the firsts of a body's edges by one way
+pub record FirstsBy (body : Body) (way : ℕ) (p : Firsts) : Type 0 where
+  pub assigned : Told 0 (λ s x. (j : ℕ) → bit x j ≡ assigned body j (s, way)) 64 64 (p .assigned)
+  pub jumps : Told 0 (λ s x. (j : ℕ) → bit x j ≡ byJump body j (s, way)) 64 64 (p .jump)
+  pub falls : Told 0 (λ s x. (j : ℕ) → bit x j ≡ byFall body j (s, way)) 64 64 (p .fall)
+
+-- all that is found of a body: the sets, each block's variable, and the firsts of its edges by jump and by fall
+pub record FoundOf (body : Body) (r : Found) : Type 0 where
+  pub sets : r .sets ≡ setsOf body
+  pub variables : Told 0 (λ k x. x ≡ block body k .variable) 64 64 (r .variable)
+  pub jumped : FirstsBy body 1 (r .jumped)
+  pub fallen : FirstsBy body 2 (r .fallen)

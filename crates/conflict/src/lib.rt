@@ -15,7 +15,9 @@ ghost use Rattle.relations.specs.PairTest.{low, level, high, apart, someOf, sha
 ghost use Rattle.words.specs.Filled.{Told};
 ghost use Rattle.relations.specs.Effects.{Within};
 ghost use Rattle.conflict.specs.Pair.{conflicting};
-ghost use Rattle.conflict.specs.Parts.{blockIn, withParts, TestsOf, target, TargetsOf, Sizes, HitsOf, EffectRowsOf, AlikeAt, OpposedAt, EitherAt, ListedAt, Above, ReachOf, FirstsOf};
+ghost use Rattle.relations.specs.Joined.{target};
+ghost use Rattle.conflict.specs.Sets.{Sound, setsOf};
+ghost use Rattle.conflict.specs.Parts.{blockIn, withParts, TestsOf, TargetsOf, Sizes, HitsOf, EffectRowsOf, AlikeAt, OpposedAt, EitherAt, ListedAt, Above, ReachOf, FirstsOf, OpposedOf, ListedOf, FoundOf};
 
 // ---- the pair test: constants are compared, never subtracted
 
@@ -107,9 +109,26 @@ struct Tests {
 }
 
 // Where each block's jump and fall lead; 64 where it has no such way.
-struct Targets {
-    jump: [usize; 64],
-    fall: [usize; 64],
+pub struct Targets {
+    pub jump: [usize; 64],
+    pub fall: [usize; 64],
+}
+
+// For each block a set of edges: those by jump and those by fall.
+pub struct Edges {
+    pub jump: [u64; 64],
+    pub fall: [u64; 64],
+}
+
+// What the walks need of a body: where each block's ways lead; the tests that it touches; the edges that its effects deny; the edges that its edge by
+// jump, and that by fall, conflicts with; and those that the conflict list pairs with a first below it.
+pub struct Sets {
+    pub targets: Targets,
+    pub touched: [u64; 64],
+    pub denied: Edges,
+    pub jumping: Edges,
+    pub falling: Edges,
+    pub listed: Edges,
 }
 
 // The tests that a block touches, and those whose jump or fall edge its last effect on their variable denies.
@@ -475,5 +494,122 @@ fn firsts_of(
         assigned,
         jump: jumps,
         fall: falls,
+    }
+}
+
+// The edges that each test's edges by jump, and those by fall, conflict with.
+struct Opposition {
+    jumping: Edges,
+    falling: Edges,
+}
+
+fn oppose(tests: u64, variable: &[u8], jump: &[u8], fall: &[u8], constant: &[i32]) -> Opposition
+    requires { ⌜ Sizes (now variable) (now jump) (now fall) (now constant) ⌝ }
+    ensures { λ r. ⌜ OpposedOf tests (now (variable .entry)) (now (jump .entry)) (now (fall .entry)) (now (constant .entry)) r ⌝ }
+{
+    let alike = alike_rows(tests, variable);
+    let a = opposed_rows(&alike, jump, jump, constant);
+    let b = opposed_rows(&alike, jump, fall, constant);
+    let c = opposed_rows(&alike, fall, jump, constant);
+    let d = opposed_rows(&alike, fall, fall, constant);
+    let jumping = Edges { jump: a, fall: b };
+    let falling = Edges { jump: c, fall: d };
+    Opposition { jumping, falling }
+}
+
+fn opposed_of(t: Tests) -> Opposition
+    requires { ⌜ Sizes (t .variable) (t .jump) (t .fall) (t .constant) ⌝ }
+    ensures { λ r. ⌜ OpposedOf (t .tests) (t .variable) (t .jump) (t .fall) (t .constant) r ⌝ }
+{
+    let variable = t.variable;
+    let jump = t.jump;
+    let fall = t.fall;
+    let constant = t.constant;
+    oppose(t.tests, &variable, &jump, &fall, &constant)
+}
+
+fn effects_by(count: usize, blocks: [form::Block; 64], effects: [form::Effect; 256], t: Tests) -> EffectRows
+    requires { ⌜ Sizes (t .variable) (t .jump) (t .fall) (t .constant) ⌝ }
+    ensures { λ r. ⌜ EffectRowsOf (withParts count blocks effects) (t .tests) (t .variable) (t .jump) (t .fall) (t .constant) r ⌝ }
+{
+    let variable = t.variable;
+    let jump = t.jump;
+    let fall = t.fall;
+    let constant = t.constant;
+    effect_rows(count, blocks, effects, t.tests, &variable, &jump, &fall, &constant)
+}
+
+fn firsts_by(to: Targets, e: EffectRows, denied: [u64; 64], opposed: Edges) -> Firsts
+    requires { ⌜ ((length (to .jump) ≡ 64) × ((length (to .fall) ≡ 64) × (length (e .touched) ≡ 64))) × (((length denied ≡ 64) × ((length (opposed .jump) ≡ 64) × (length (opposed .fall) ≡ 64))) × (Above (to .jump) × Above (to .fall))) ⌝ }
+    ensures { λ r. ⌜ FirstsOf (to .jump) (to .fall) (e .touched) denied (opposed .jump) (opposed .fall) r ⌝ }
+{
+    let jump = to.jump;
+    let fall = to.fall;
+    let touched = e.touched;
+    let jumping = opposed.jump;
+    let falling = opposed.fall;
+    firsts_of(&jump, &fall, &touched, &denied, &jumping, &falling)
+}
+
+// All that is found of a body: the sets, and for the conflict list each block's variable and the firsts of its edges.
+struct Found {
+    sets: Sets,
+    variable: [u8; 64],
+    jumped: Firsts,
+    fallen: Firsts,
+}
+
+fn listed_of(jumped: Firsts, fallen: Firsts) -> Edges
+    ensures { λ r. ⌜ ListedOf jumped fallen r ⌝ }
+{
+    let a = jumped.assigned;
+    let j = jumped.jump;
+    let f = jumped.fall;
+    let by_jump = all_firsts(&a, &j, &f);
+    let jump = listed_rows(&by_jump);
+    let c = fallen.assigned;
+    let k = fallen.jump;
+    let g = fallen.fall;
+    let by_fall = all_firsts(&c, &k, &g);
+    let fall = listed_rows(&by_fall);
+    Edges { jump, fall }
+}
+
+fn find(body: form::Body) -> Found
+    requires { ⌜ Sound body ⌝ }
+    ensures { λ r. ⌜ FoundOf body r ⌝ }
+{
+    let blocks = body.blocks;
+    let effects = body.effects;
+    let t = tests_of(body.count, blocks);
+    let targets = targets_of(body.count, blocks);
+    let e = effects_by(body.count, blocks, effects, t);
+    let o = opposed_of(t);
+    let jumping = o.jumping;
+    let falling = o.falling;
+    let deny_jump = e.jump;
+    let deny_fall = e.fall;
+    let jumped = firsts_by(targets, e, deny_jump, jumping);
+    let fallen = firsts_by(targets, e, deny_fall, falling);
+    let listed = listed_of(jumped, fallen);
+    let touched = e.touched;
+    let denied = Edges {
+        jump: deny_jump,
+        fall: deny_fall,
+    };
+    let sets = Sets {
+        targets,
+        touched,
+        denied,
+        jumping,
+        falling,
+        listed,
+    };
+    let variable = t.variable;
+    Found {
+        sets,
+        variable,
+        jumped,
+        fallen,
     }
 }

@@ -32,7 +32,7 @@ jumpOf k = target (ltb 0 (k .ending) && ltb (k .ending) 4) (k .jump)
 abbrev pub fallOf : Block → ℕ
 fallOf k = target (ltb 1 (k .ending) && ltb (k .ending) 4) (k .fall)
 
-above-three : (m : ℕ) (a : Bool) → (a && ltb (suc (suc (suc (suc m)))) 4) ≡ false
+pub above-three : (m : ℕ) (a : Bool) → (a && ltb (suc (suc (suc (suc m)))) 4) ≡ false
 above-three m a = rw (le-ltb (suc (suc (suc (suc m)))) 4 (omega arith), and-false a)
 
 pub some-exit : (X : ℕ → Bool) → X 64 ≡ false → (k : Block) → anyOf (λ o. X (o .1)) (exitsBy (k .ending) (k .jump) (k .fall)) ≡ (X (jumpOf k) || X (fallOf k))
@@ -282,6 +282,10 @@ module _ (body : Body) where
 
     pub listed-fall : (b s : ℕ) → b ≤ 64 → s < 64 → any b (λ f. paired f (s, 2)) ≡ anyOf (pairsBelow b (s, 2)) (conflicts body)
     listed-fall b s h l = both _ _ (listed-in b s 2 h l (λ p m. mem-right p (edgePairs (s, 1)) (edgePairs (s, 2)) m)) (listed-out b (s, 2))
+
+    -- an edge of no test is not listed
+    pub listed-none : (b : ℕ) (e : Edge) → isTest body (e .0) ≡ false → anyOf (pairsBelow b e) (conflicts body) ≡ false
+    listed-none b e t = is-false (anyOf (pairsBelow b e) (conflicts body)) (λ h. let (f, l, k) = any-out b (λ f. paired f e) (listed-out b e h) in clash k (paired-none f e t))
 
 -- ---- clean paths, block by block
 

@@ -12,7 +12,8 @@ use Rattle.form.specs.Conflict.{noBlock}
 use Rattle.form.specs.Relation.{opposite}
 use Rattle.relations.specs.Blocks.{taken}
 use Rattle.words.specs.Filled.{Upto, upto-none, upto-more, upto-end, Told, told-none, told-more, told-end}
-use Rattle.conflict.specs.Parts.{blockIn, target, jumpOf, fallOf, TargetsOf, TestsOf}
+use Rattle.conflict.specs.Parts.{blockIn, TargetsOf}
+use Rattle.relations.specs.Joined.{jumpOf, fallOf}
 use borrow.Author.Needs.{needs}
 use Rattle.conflict.proofs.targets_of.Statement.{statement}
 use Rattle.conflict.proofs.targets_of.Tie as tie

@@ -15,7 +15,7 @@ use Rattle.form.specs.Conflict.{noBlock}
 use Rattle.form.specs.Relation.{opposite}
 use Rattle.relations.specs.Blocks.{taken, beyond}
 use Rattle.words.specs.Filled.{Upto, upto-none, upto-more, upto-end, Told, told-none, told-more, told-end}
-use Rattle.conflict.specs.Parts.{blockIn, target, jumpOf, fallOf, TargetsOf, TestsOf}
+use Rattle.conflict.specs.Parts.{blockIn, TestsOf}
 use borrow.Author.Needs.{needs}
 use Rattle.conflict.proofs.tests_of.Statement.{statement}
 use Rattle.conflict.proofs.tests_of.Tie as tie
