@@ -28,8 +28,10 @@ use Rattle.conflict.specs.declared.Targets.{Targets}
 use Rattle.conflict.specs.declared.Reach.{Reach}
 use Rattle.conflict.specs.declared.Firsts.{Firsts}
 use Rattle.conflict.specs.declared.Edges.{Edges}
-use Rattle.conflict.specs.Sets.{Sound, wayTo, listedBelow}
-use Rattle.conflict.specs.Parts.{blockIn, withParts, TestsOf, TargetsOf, TouchedBy, conditionAt, DeniedBy, AlikeAt, OpposedAt, EitherAt, ListedAt, Paths, ReachOf, AssignedAt, ByJumpAt, ByFallAt, FirstsOf, FirstsBy}
+use Rattle.conflict.specs.declared.EffectRows.{EffectRows}
+use Rattle.conflict.specs.declared.Opposition.{Opposition}
+use Rattle.conflict.specs.Sets.{Sound, wayTo, listedBelow, setsOf}
+use Rattle.conflict.specs.Parts.{blockIn, withParts, TestsOf, TargetsOf, TouchedBy, conditionAt, DeniedBy, AlikeAt, OpposedAt, EitherAt, ListedAt, Paths, ReachOf, AssignedAt, ByJumpAt, ByFallAt, FirstsOf, FirstsBy, Above, EffectRowsOf, OpposedOf, ListedOf, FoundOf}
 
 -- bits of a row b that has a word for each block
 abbrev pub Bits : (ℕ → ℕ → Bool) → ℕ → ℕ → Type 0
@@ -277,3 +279,97 @@ module _ (body : Body) where
         go : (b : ℕ) → b < 64 → (k : ℕ) → (k < 64) ⊎ (64 ≤ k) → any b (λ f. bit (getD all k 0) f) ≡ listedBelow body b (k, way)
         go b h k (inl g) = any-same b _ _ (first-bit k g) ∙ listed-is b k (omega arith) g
         go b h k (inr g) = any-same b _ (λ f. false) (λ f. ap (λ x. bit x f) (beyond all k 0 (omega (arith, each .size))) ∙ bit-none f) ∙ any-none b ∙ sym (listed-off b k g)
+
+  -- ---- all of it
+  module _ (size : length (body .blocks) ≡ 64) (sound : Sound body) (t : Tests) (shown : TestsOf (blockIn (body .count) (body .blocks)) t)
+      (to : Targets) (led : TargetsOf (blockIn (body .count) (body .blocks)) to) (e : EffectRows) (rowed : EffectRowsOf parts (t .tests) (t .variable) (t .jump) (t .fall) (t .constant) e)
+      (o : Opposition) (opp : OpposedOf (t .tests) (t .variable) (t .jump) (t .fall) (t .constant) o) where
+    touch : Told 0 (Bits (λ b k. isTest body k && touches body b (block body k .variable))) 64 64 (e .touched)
+    touch = touched-row size t shown (e .touched) (rowed .touched)
+
+    deny-jump : Told 0 (Bits (λ b k. denies body b (k, 1))) 64 64 (e .jump)
+    deny-jump = denied-row size t shown (t .jump) 1 (by-jump size t shown) (e .jump) (rowed .jumps)
+
+    deny-fall : Told 0 (Bits (λ b k. denies body b (k, 2))) 64 64 (e .fall)
+    deny-fall = denied-row size t shown (t .fall) 2 (by-fall size t shown) (e .fall) (rowed .falls)
+
+    jump-jump : Told 0 (Bits (λ b k. opposes body (b, 1) (k, 1))) 64 64 (o .jumping .jump)
+    jump-jump = opposed-row size t shown (opp .alike) (t .jump) (t .jump) 1 1 (by-jump size t shown) (by-jump size t shown) (opp .alikes) (o .jumping .jump) (opp .jump-jump)
+
+    jump-fall : Told 0 (Bits (λ b k. opposes body (b, 1) (k, 2))) 64 64 (o .jumping .fall)
+    jump-fall = opposed-row size t shown (opp .alike) (t .jump) (t .fall) 1 2 (by-jump size t shown) (by-fall size t shown) (opp .alikes) (o .jumping .fall) (opp .jump-fall)
+
+    fall-jump : Told 0 (Bits (λ b k. opposes body (b, 2) (k, 1))) 64 64 (o .falling .jump)
+    fall-jump = opposed-row size t shown (opp .alike) (t .fall) (t .jump) 2 1 (by-fall size t shown) (by-jump size t shown) (opp .alikes) (o .falling .jump) (opp .fall-jump)
+
+    fall-fall : Told 0 (Bits (λ b k. opposes body (b, 2) (k, 2))) 64 64 (o .falling .fall)
+    fall-fall = opposed-row size t shown (opp .alike) (t .fall) (t .fall) 2 2 (by-fall size t shown) (by-fall size t shown) (opp .alikes) (o .falling .fall) (opp .fall-fall)
+
+    pub sized : (denied : List ℕ) (opposed : Edges) → length denied ≡ 64 → length (opposed .jump) ≡ 64 → length (opposed .fall) ≡ 64
+        → ((length (to .jump) ≡ 64) × ((length (to .fall) ≡ 64) × (length (e .touched) ≡ 64))) × (((length denied ≡ 64) × ((length (opposed .jump) ≡ 64) × (length (opposed .fall) ≡ 64))) × (Above (to .jump) × Above (to .fall)))
+    sized denied opposed d j f = ((led .jumps .size, (led .falls .size, rowed .touched .size)), ((d, (j, f)), (jump-above size to led (sound .onward), fall-above size to led (sound .onward))))
+
+    same-variable : (way s : ℕ) → condition body (s, way) .variable ≡ block body s .variable
+    unfolding condition
+    same-variable way s = refl
+
+    -- past the blocks nothing is in a set
+    off : (k : ℕ) → 64 ≤ k → isTest body k ≡ false
+    off k h = no-test body k (past-64 body size k h)
+
+    listed-of-jump : (b s : ℕ) → b ≤ 64 → s < 64 → any b (λ f. paired body f (s, 1)) ≡ listedBelow body b (s, 1)
+    unfolding listedBelow
+    listed-of-jump = listed-jump body (sound .few)
+
+    listed-of-fall : (b s : ℕ) → b ≤ 64 → s < 64 → any b (λ f. paired body f (s, 2)) ≡ listedBelow body b (s, 2)
+    unfolding listedBelow
+    listed-of-fall = listed-fall body (sound .few)
+
+    module _ (jumped fallen : Firsts) (one : FirstsOf (to .jump) (to .fall) (e .touched) (e .jump) (o .jumping .jump) (o .jumping .fall) jumped)
+        (two : FirstsOf (to .jump) (to .fall) (e .touched) (e .fall) (o .falling .jump) (o .falling .fall) fallen) (l : Edges) (listed : ListedOf jumped fallen l) where
+      by-one : FirstsBy body 1 jumped
+      by-one = firsts-by size to led sound (e .touched) touch 1 (same-variable 1) (e .jump) (o .jumping .jump) (o .jumping .fall) jumped deny-jump jump-jump jump-fall one
+
+      by-two : FirstsBy body 2 fallen
+      by-two = firsts-by size to led sound (e .touched) touch 2 (same-variable 2) (e .fall) (o .falling .jump) (o .falling .fall) fallen deny-fall fall-jump fall-fall two
+
+      listed-one : Told 0 (Bits (λ b k. listedBelow body b (k, 1))) 64 64 (l .jump)
+      listed-one = listed-row size sound 1 jumped by-one listed-of-jump (listed .by-jump) (l .jump) (listed .all-jump) (listed .jumps)
+
+      listed-two : Told 0 (Bits (λ b k. listedBelow body b (k, 2))) 64 64 (l .fall)
+      listed-two = listed-row size sound 2 fallen by-two listed-of-fall (listed .by-fall) (l .fall) (listed .all-fall) (listed .falls)
+
+      sets-are : record { targets = to; touched = e .touched; denied = record { jump = e .jump; fall = e .fall }; jumping = o .jumping; falling = o .falling; listed = l } ≡ setsOf body
+      unfolding setsOf
+      sets-are = λ i. record {
+        targets = targets-are size to led i;
+        touched = told-rows (λ b k. isTest body k && touches body b (block body k .variable)) (λ b k h. rw (off k h)) (e .touched) touch i;
+        denied = record {
+          jump = told-rows (λ b k. denies body b (k, 1)) (λ b k h. denies-test body b (k, 1) (off k h)) (e .jump) deny-jump i;
+          fall = told-rows (λ b k. denies body b (k, 2)) (λ b k h. denies-test body b (k, 2) (off k h)) (e .fall) deny-fall i;
+        };
+        jumping = record {
+          jump = told-rows (λ b k. opposes body (b, 1) (k, 1)) (λ b k h. opposes-test body (b, 1) (k, 1) (off k h)) (o .jumping .jump) jump-jump i;
+          fall = told-rows (λ b k. opposes body (b, 1) (k, 2)) (λ b k h. opposes-test body (b, 1) (k, 2) (off k h)) (o .jumping .fall) jump-fall i;
+        };
+        falling = record {
+          jump = told-rows (λ b k. opposes body (b, 2) (k, 1)) (λ b k h. opposes-test body (b, 2) (k, 1) (off k h)) (o .falling .jump) fall-jump i;
+          fall = told-rows (λ b k. opposes body (b, 2) (k, 2)) (λ b k h. opposes-test body (b, 2) (k, 2) (off k h)) (o .falling .fall) fall-fall i;
+        };
+        listed = record {
+          jump = told-rows (λ b k. listedBelow body b (k, 1)) (λ b k h. listed-off size sound 1 jumped by-one listed-of-jump (listed .by-jump) (l .jump) (listed .all-jump) (listed .jumps) b k h) (l .jump) listed-one i;
+          fall = told-rows (λ b k. listedBelow body b (k, 2)) (λ b k h. listed-off size sound 2 fallen by-two listed-of-fall (listed .by-fall) (l .fall) (listed .all-fall) (listed .falls) b k h) (l .fall) listed-two i;
+        };
+      }
+
+      variables-are : Told 0 (λ k x. x ≡ block body k .variable) 64 64 (t .variable)
+      unfolding block
+      variables-are = shown .variables
+
+      pub found-is : FoundOf body (record {
+        sets = record { targets = to; touched = e .touched; denied = record { jump = e .jump; fall = e .fall }; jumping = o .jumping; falling = o .falling; listed = l };
+        variable = t .variable;
+        jumped = jumped;
+        fallen = fallen;
+      })
+      found-is = record { sets = sets-are; variables = variables-are; jumped = by-one; fallen = by-two }

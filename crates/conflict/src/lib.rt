@@ -172,7 +172,7 @@ fn own_block(count: usize, i: usize, k: form::Block) -> form::Block
 }
 
 fn tests_of(count: usize, blocks: [form::Block; 64]) -> Tests
-    ensures { λ r. ⌜ TestsOf (blockIn count blocks) r ⌝ }
+    ensures { λ r. ⌜ TestsOf (blockIn count blocks) r × (length blocks ≡ 64) ⌝ }
 {
     let mut tests = 0;
     let mut variable = [0; 64];
@@ -528,7 +528,12 @@ fn opposed_of(t: Tests) -> Opposition
     oppose(t.tests, &variable, &jump, &fall, &constant)
 }
 
-fn effects_by(count: usize, blocks: [form::Block; 64], effects: [form::Effect; 256], t: Tests) -> EffectRows
+fn effects_by(
+    count: usize,
+    blocks: [form::Block; 64],
+    effects: [form::Effect; 256],
+    t: Tests,
+) -> EffectRows
     requires { ⌜ Sizes (t .variable) (t .jump) (t .fall) (t .constant) ⌝ }
     ensures { λ r. ⌜ EffectRowsOf (withParts count blocks effects) (t .tests) (t .variable) (t .jump) (t .fall) (t .constant) r ⌝ }
 {
@@ -536,7 +541,16 @@ fn effects_by(count: usize, blocks: [form::Block; 64], effects: [form::Effect; 2
     let jump = t.jump;
     let fall = t.fall;
     let constant = t.constant;
-    effect_rows(count, blocks, effects, t.tests, &variable, &jump, &fall, &constant)
+    effect_rows(
+        count,
+        blocks,
+        effects,
+        t.tests,
+        &variable,
+        &jump,
+        &fall,
+        &constant,
+    )
 }
 
 fn firsts_by(to: Targets, e: EffectRows, denied: [u64; 64], opposed: Edges) -> Firsts

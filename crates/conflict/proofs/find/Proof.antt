@@ -1,46 +1,59 @@
+-- `conflict::find` meets its contract. What the called functions say of one another is put together by `found-is`.
+use mathlib.Core.Path.{_≡_}
+use mathlib.Core.Bool.{Bool}
+use lib.ListN.{length}
+use Rattle.conflict.specs.Finding.{sized, found-is}
 use borrow.Author.Needs.{needs}
 use Rattle.conflict.proofs.find.Statement.{statement}
 use Rattle.conflict.proofs.find.Tie as tie
-use Rattle.conflict.proofs.find.Reads as reads
-use Rattle.conflict.proofs.find.Lts as lts
-use Rattle.conflict.proofs.effects_by.Reads as effects-by-reads
-use Rattle.conflict.proofs.firsts_by.Reads as firsts-by-reads
-use Rattle.conflict.proofs.listed_of.Reads as listed-of-reads
-use Rattle.conflict.proofs.opposed_of.Reads as opposed-of-reads
-use Rattle.conflict.proofs.targets_of.Reads as targets-of-reads
-use Rattle.conflict.proofs.tests_of.Reads as tests-of-reads
 
--- src/lib.rt:577:9
 tests-of-requires : tie.Need-tests-of-requires
 tests-of-requires c κs = search needs
 
--- src/lib.rt:578:9
 targets-of-requires : tie.Need-targets-of-requires
 targets-of-requires c κs = search needs
 
--- src/lib.rt:579:9
 effects-by-requires : tie.Need-effects-by-requires
 effects-by-requires c κs = search needs
 
--- src/lib.rt:580:9
 opposed-of-requires : tie.Need-opposed-of-requires
 opposed-of-requires c κs = search needs
 
--- src/lib.rt:585:9
 firsts-by-requires : tie.Need-firsts-by-requires
-firsts-by-requires c κs = ?
+firsts-by-requires c κs =
+    let opposed = c .before .before .before .before in
+    let rowed = opposed .before in
+    let to = rowed .before in
+    let tests = to .before in
+    let start = tests .before .before .before in
+    let size : length (start .args .body .blocks) ≡ 64 = tests .tests-of .ensures .1 in
+    sized (start .args .body) size (start .pre) _ (tests .tests-of .ensures .0) _ (to .targets-of .ensures) _ (rowed .effects-by .ensures) _ (opposed .opposed-of .ensures) (rowed .effects-by .result .jump) (opposed .opposed-of .result .jumping)
+    (rowed .effects-by .ensures .jumps .size) (opposed .opposed-of .ensures .jump-jump .size) (opposed .opposed-of .ensures .jump-fall .size)
 
--- src/lib.rt:586:9
 firsts-by-requires-2 : tie.Need-firsts-by-requires-2
-firsts-by-requires-2 c κs = ?
+firsts-by-requires-2 c κs =
+    let opposed = c .before .before .before .before .before in
+    let rowed = opposed .before in
+    let to = rowed .before in
+    let tests = to .before in
+    let start = tests .before .before .before in
+    let size : length (start .args .body .blocks) ≡ 64 = tests .tests-of .ensures .1 in
+    sized (start .args .body) size (start .pre) _ (tests .tests-of .ensures .0) _ (to .targets-of .ensures) _ (rowed .effects-by .ensures) _ (opposed .opposed-of .ensures) (rowed .effects-by .result .fall) (opposed .opposed-of .result .falling)
+    (rowed .effects-by .ensures .falls .size) (opposed .opposed-of .ensures .fall-jump .size) (opposed .opposed-of .ensures .fall-fall .size)
 
--- src/lib.rt:587:9
 listed-of-requires : tie.Need-listed-of-requires
 listed-of-requires c κs = search needs
 
--- src/lib.rt:571:1
 returns : tie.Need-returns
-returns c = ?
+returns c =
+    let opposed = c .before .before .before .before .before .before .before .before .before in
+    let rowed = opposed .before in
+    let to = rowed .before in
+    let tests = to .before in
+    let start = tests .before .before .before in
+    let size : length (start .args .body .blocks) ≡ 64 = tests .tests-of .ensures .1 in
+    found-is (start .args .body) size (start .pre) _ (tests .tests-of .ensures .0) _ (to .targets-of .ensures) _ (rowed .effects-by .ensures) _ (opposed .opposed-of .ensures) _ _
+    (c .before .before .before .before .firsts-by .ensures) (c .before .before .before .firsts-by2 .ensures) _ (c .before .before .listed-of .ensures)
 
 pub find-spec : {M : Type 1} → statement M
 find-spec =

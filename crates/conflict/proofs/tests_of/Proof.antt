@@ -90,16 +90,18 @@ returns : tie.Need-returns Inv-loop μ-loop
 returns c =
     let done = c .before .loop .inv in
     let start = c .before .before in
-    let size : length (start .args .t2) ≡ 64 = start .good .1 .0 .1 .0 .1 in
-    record {
-      tests =
-          upto-end (λ k. eqb (blockIn (start .args .count) (start .args .t2) k .ending) 3) _ _
-          (λ j l. ap (λ (k : Block). eqb (k .ending) 3) (beyond (take (start .args .count) (start .args .t2)) j noBlock (omega (arith, length-take (start .args .count) (start .args .t2), c .loop-test .left)))) (done .1);
-      variables = told-end _ _ _ _ _ (c .loop-test .left) (done .2);
-      jumps = told-end _ _ _ _ _ (c .loop-test .left) (done .3);
-      falls = told-end _ _ _ _ _ (c .loop-test .left) (done .4);
-      constants = told-end _ _ _ _ _ (c .loop-test .left) (done .5);
-    }
+    let size : length (start .args .t2) ≡ 64 = start .good .1 .0 .1 .0 .1 in (
+      record {
+        tests =
+            upto-end (λ k. eqb (blockIn (start .args .count) (start .args .t2) k .ending) 3) _ _
+            (λ j l. ap (λ (k : Block). eqb (k .ending) 3) (beyond (take (start .args .count) (start .args .t2)) j noBlock (omega (arith, length-take (start .args .count) (start .args .t2), c .loop-test .left)))) (done .1);
+        variables = told-end _ _ _ _ _ (c .loop-test .left) (done .2);
+        jumps = told-end _ _ _ _ _ (c .loop-test .left) (done .3);
+        falls = told-end _ _ _ _ _ (c .loop-test .left) (done .4);
+        constants = told-end _ _ _ _ _ (c .loop-test .left) (done .5);
+      },
+      size,
+    )
 
 pub tests-of-spec : {M : Type 1} → statement M
 tests-of-spec =
