@@ -3,3 +3,4 @@ pub mod Form
 pub mod Answer
 pub mod Records
 pub mod Filling
+pub mod Laying
