@@ -78,11 +78,12 @@ module _ {A : Type 0} (z : A) (n : ℕ) (all : List A) where
         (x : A) (longer : List A) → test at ≡ true → x ≡ make at (recordsFrom s (next s at)) → longer ≡ placed n list count x
         → Gathering z n all (gather test make (recordsFrom s (next s at))) longer (count + 1)
     gathering-take x longer t e p =
-        record
-        { done = g .done ++ (x ∷ [])
-        ; whole = rw e (gather-take test make s at h all (g .done) t (g .whole))
-        ; counted = longer-by-one
-        ; filled = p ∙ rw (g .filled, g .counted) (placed-fill z n (g .done) x) }
+        record {
+          done = g .done ++ (x ∷ []);
+          whole = rw e (gather-take test make s at h all (g .done) t (g .whole));
+          counted = longer-by-one;
+          filled = p ∙ rw (g .filled, g .counted) (placed-fill z n (g .done) x);
+        }
       where
         longer-by-one : count + 1 ≡ length (g .done ++ (x ∷ []))
         longer-by-one = simp length-append (omega (arith, g .counted))

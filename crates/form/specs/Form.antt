@@ -165,9 +165,16 @@ effectAt s at = record { variable = byteAt s (at + 4); how = byteAt s (at + 5); 
 -- with the number of its effects
 abbrev pub blockAt : List ℕ → ℕ → ℕ → Block
 blockAt s at own =
-    record
-    { cost = number4 s (at + 4); ending = byteAt s (at + 8); jump = byteAt s (at + 9); fall = byteAt s (at + 10)
-    ; variable = byteAt s (at + 11); relation = byteAt s (at + 12); constant = signed4 s (at + 13); effects = own }
+    record {
+      cost = number4 s (at + 4);
+      ending = byteAt s (at + 8);
+      jump = byteAt s (at + 9);
+      fall = byteAt s (at + 10);
+      variable = byteAt s (at + 11);
+      relation = byteAt s (at + 12);
+      constant = signed4 s (at + 13);
+      effects = own;
+    }
 
 -- How many effects stand before the next block or the end
 unfoldable pub ownEffects : List ℕ → List ℕ → ℕ
@@ -203,9 +210,13 @@ fill z (suc n) (x ∷ xs) = x ∷ fill z n xs
 -- The body with these blocks and effects; what stands past the counts is zero
 abbrev pub bodyWith : Counter → List Block → List Effect → Body
 bodyWith counter blocks effects =
-    record
-    { counter = counter; count = length blocks; blocks = fill zeroBlock 64 blocks; total = length effects
-    ; effects = fill zeroEffect 256 effects }
+    record {
+      counter = counter;
+      count = length blocks;
+      blocks = fill zeroBlock 64 blocks;
+      total = length effects;
+      effects = fill zeroEffect 256 effects;
+    }
 
 abbrev pub bodyOf : List ℕ → Body
 bodyOf s = bodyWith (counterAt s 0) (blocksIn s (recordsFrom s 0)) (effectsIn s (recordsFrom s 0))

@@ -4,3 +4,4 @@ pub mod Answer
 pub mod Records
 pub mod Filling
 pub mod Laying
+pub mod Writing

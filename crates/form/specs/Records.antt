@@ -48,6 +48,7 @@ starts-enough (suc f) (suc g) s at p q =
   where
     further : (m : ℕ) → length s ≤ at + suc m → length s ≤ next s at + m
     further m h = omega (arith, next-above s at)
+
     go :
         (b : Bool) → ltb at (length s) ≡ b → startsFor f s (next s at) ≡ startsFor g s (next s at)
         → startsFor (suc f) s at ≡ startsFor (suc g) s at

@@ -148,7 +148,8 @@ fn bad_ways(ending: u8, jump: u8, fall: u8, variable: u8, relation: u8, constant
     ensures { λ r. ⌜ r ≡ badWays ending jump fall variable relation constant ⌝ }
 {
     (is_stray(1, ending, wide(jump)) | is_stray(2, ending, wide(fall)))
-        | (is_stray(3, ending, wide(variable)) | (is_stray(3, ending, wide(relation)) | is_stray(3, ending, constant)))
+        | (is_stray(3, ending, wide(variable))
+            | (is_stray(3, ending, wide(relation)) | is_stray(3, ending, constant)))
 }
 
 fn bad_block(s: &[u8], at: usize) -> bool
@@ -255,7 +256,11 @@ fn end_fault(s: &[u8], at: usize, n: usize, k: usize) -> u32
     let next = k + 1;
     let end = ((next < n) & (ending == 0)) | ((n <= next) & (0 < ending));
     let beyond = some_target(ending, n <= jump, n <= fall);
-    refuse_if((kind == 2) & end, 18, refuse_if((kind == 2) & beyond, 19, 0))
+    refuse_if(
+        (kind == 2) & end,
+        18,
+        refuse_if((kind == 2) & beyond, 19, 0),
+    )
 }
 
 // 18 and 19, block by block of the n.
@@ -524,7 +529,10 @@ pub fn accepts(verdict: Verdict) -> bool
 {
     match verdict {
         Verdict::Accepted => true,
-        Verdict::Refused { number: _, place: _ } => false,
+        Verdict::Refused {
+            number: _,
+            place: _,
+        } => false,
     }
 }
 

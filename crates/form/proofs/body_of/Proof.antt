@@ -24,9 +24,13 @@ returns : tie.Need-returns
 returns c =
     let gathered = c .before .before in
     let blocks = gathered .before .blocks-of .ensures in
-    λ i. record
-    { counter = gathered .before .before .counter-at .ensures i; count = blocks .0 i; blocks = blocks .1 i
-    ; total = gathered .effects-of .ensures .0 i; effects = gathered .effects-of .ensures .1 i }
+    λ i. record {
+      counter = gathered .before .before .counter-at .ensures i;
+      count = blocks .0 i;
+      blocks = blocks .1 i;
+      total = gathered .effects-of .ensures .0 i;
+      effects = gathered .effects-of .ensures .1 i;
+    }
 
 pub body-of-spec : {M : Type 1} → statement M
 body-of-spec =

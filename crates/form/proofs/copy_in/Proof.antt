@@ -35,10 +35,11 @@ loop-less c = omega arith
 loop-again : tie.Need-loop-again Inv-loop μ-loop
 loop-again c =
     let at-loop = c .before .before in
-    let start = at-loop .before in
-    ( rw (at-loop .loop .inv .0, add-one)
-      (paste-suc (start .args .out .now) (start .args .at) (start .args .bytes .now) (at-loop .loop .j) 0 (omega arith) (omega arith))
-    , (omega arith, simp length-set (at-loop .loop .inv .1 .1)) )
+    let start = at-loop .before in (
+      rw (at-loop .loop .inv .0, add-one)
+          (paste-suc (start .args .out .now) (start .args .at) (start .args .bytes .now) (at-loop .loop .j) 0 (omega arith) (omega arith)),
+      (omega arith, simp length-set (at-loop .loop .inv .1 .1)),
+    )
 
 add-result : tie.Need-add-result Inv-loop μ-loop
 add-result c = omega arith

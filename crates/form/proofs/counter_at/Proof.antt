@@ -43,10 +43,12 @@ signed-at-requires-3 c κs = search needs
 returns : tie.Need-returns
 returns c =
     let second = c .before .before in
-    λ i. record
-    { initial = held (second .before .signed-at .ok) (second .before .signed-at .ensures) i
-    ; step = held (second .signed-at2 .ok) (second .signed-at2 .ensures) i; relation = c .before .byte-at .ensures i
-    ; limit = held (c .signed-at3 .ok) (c .signed-at3 .ensures) i }
+    λ i. record {
+      initial = held (second .before .signed-at .ok) (second .before .signed-at .ensures) i;
+      step = held (second .signed-at2 .ok) (second .signed-at2 .ensures) i;
+      relation = c .before .byte-at .ensures i;
+      limit = held (c .signed-at3 .ok) (c .signed-at3 .ensures) i;
+    }
 
 pub counter-at-spec : {M : Type 1} → statement M
 counter-at-spec =

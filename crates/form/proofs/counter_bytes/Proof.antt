@@ -73,10 +73,11 @@ returns c =
     let initial = step .before .before in
     let field = initial .before .struct-told .given in
     let counter = initial .before .before .args .c in
-    rw
-    ( field-bits (counter .initial) (field .0 .1) (initial .bits-of .ensures)
-    , field-bits (counter .step) (field .1 .0 .1) (step .bits-of2 .ensures)
-    , field-bits (counter .limit) (field .1 .1 .1 .0 .1) (c .bits-of3 .ensures) )
+    rw (
+      field-bits (counter .initial) (field .0 .1) (initial .bits-of .ensures),
+      field-bits (counter .step) (field .1 .0 .1) (step .bits-of2 .ensures),
+      field-bits (counter .limit) (field .1 .1 .1 .0 .1) (c .bits-of3 .ensures),
+    )
 
 pub counter-bytes-spec : {M : Type 1} → statement M
 counter-bytes-spec =

@@ -68,7 +68,7 @@ returns-4 c =
     let body = start .before .before .args .body in
     let all : c .before .loop .k ≡ body .count = omega arith in
     let none : sumOwn (drop (c .before .loop .k) (take (body .count) (body .blocks))) ≡ 0 =
-        sum-end (body .count) (c .before .loop .k) all (body .blocks) in
+    sum-end (body .count) (c .before .loop .k) all (body .blocks) in
     lacks (sumOwn (take (body .count) (body .blocks))) (c .before .loop .left) (body .total) (omega arith)
     ∙ sym (within-counts _ (start .before .if1 .left) (start .if2 .left))
 

@@ -34,9 +34,11 @@ signed-at-requires c κs = search needs
 -- src/lib.rt:344:1
 returns : tie.Need-returns
 returns c =
-    λ i. record
-    { variable = c .before .before .byte-at .ensures i; how = c .before .byte-at2 .ensures i
-    ; constant = held (c .signed-at .ok) (c .signed-at .ensures) i }
+    λ i. record {
+      variable = c .before .before .byte-at .ensures i;
+      how = c .before .byte-at2 .ensures i;
+      constant = held (c .signed-at .ok) (c .signed-at .ensures) i;
+    }
 
 pub effect-at-spec : {M : Type 1} → statement M
 effect-at-spec =

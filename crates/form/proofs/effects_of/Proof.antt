@@ -56,11 +56,12 @@ loop-again : tie.Need-loop-again Inv-loop μ-loop
 loop-again c =
     let picked = c .before .before in
     let read = picked .before .before in
-    let kind = read .short-at .ensures .0 in
-    ( rw (picked .before .record-length .ensures .0, kind)
-      (gathering-take _ _ _ _ _ _ _ (read .before .loop-test .taken) _ _ (read .before .before .loop .inv .0) _ _
-      (eq-eqb _ _ (sym kind ∙ picked .if1 .taken)) (c .before .effect-at .ensures) (c .with-effect .ensures))
-    , omega arith )
+    let kind = read .short-at .ensures .0 in (
+      rw (picked .before .record-length .ensures .0, kind)
+          (gathering-take _ _ _ _ _ _ _ (read .before .loop-test .taken) _ _ (read .before .before .loop .inv .0) _ _
+          (eq-eqb _ _ (sym kind ∙ picked .if1 .taken)) (c .before .effect-at .ensures) (c .with-effect .ensures)),
+      omega arith,
+    )
 
 loop-less-2 : tie.Need-loop-less-2 Inv-loop μ-loop
 loop-less-2 c = omega arith
@@ -68,11 +69,12 @@ loop-less-2 c = omega arith
 loop-again-2 : tie.Need-loop-again-2 Inv-loop μ-loop
 loop-again-2 c =
     let read = c .before .before in
-    let kind = read .short-at .ensures .0 in
-    ( rw (c .before .record-length .ensures .0, kind)
-      (gathering-skip _ _ _ _ _ _ _ (read .before .loop-test .taken) _ _ (read .before .before .loop .inv .0)
-      (ne-eqb _ _ (λ e. c .if1 .left (kind ∙ e))))
-    , omega arith )
+    let kind = read .short-at .ensures .0 in (
+      rw (c .before .record-length .ensures .0, kind)
+          (gathering-skip _ _ _ _ _ _ _ (read .before .loop-test .taken) _ _ (read .before .before .loop .inv .0)
+          (ne-eqb _ _ (λ e. c .if1 .left (kind ∙ e)))),
+      omega arith,
+    )
 
 returns : tie.Need-returns Inv-loop μ-loop
 returns c = gathering-end _ _ _ _ _ _ _ (c .loop-test .left) _ _ (c .before .loop .inv .0)

@@ -64,12 +64,13 @@ loop-again c =
     let read = c .before .before .before in
     let turn = read .before .before in
     let passed =
-        rest-pass _ _ (turn .before .loop-test .taken) _ _ _ (sym (turn .record-fault .ensures) ∙ read .before .if1 .left)
-        (turn .before .before .loop .inv .0) in
-    ( rw
-      (c .record-length .ensures .0, c .before .one-if2 .ensures .0, c .before .before .one-if .ensures .0, read .short-at .ensures .0)
-      passed
-    , omega arith )
+    rest-pass _ _ (turn .before .loop-test .taken) _ _ _ (sym (turn .record-fault .ensures) ∙ read .before .if1 .left)
+    (turn .before .before .loop .inv .0) in (
+      rw
+          (c .record-length .ensures .0, c .before .one-if2 .ensures .0, c .before .before .one-if .ensures .0, read .short-at .ensures .0)
+          passed,
+      omega arith,
+    )
 
 returns-2 : tie.Need-returns-2 Inv-loop μ-loop
 returns-2 c =

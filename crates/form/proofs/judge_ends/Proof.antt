@@ -58,8 +58,8 @@ loop-again c =
     let turn = c .before .before .before .before in
     let kind = c .before .before .short-at .ensures .0 in
     let passed =
-        ends-pass _ _ (turn .before .loop-test .taken) _ _ _ (sym (turn .end-fault .ensures) ∙ c .before .before .before .if1 .left)
-        (turn .before .before .loop .inv .0) in
+    ends-pass _ _ (turn .before .loop-test .taken) _ _ _ (sym (turn .end-fault .ensures) ∙ c .before .before .before .if1 .left)
+    (turn .before .before .loop .inv .0) in
     (rw (c .record-length .ensures .0, c .before .one-if .ensures .0, kind) passed, omega arith)
 
 returns-2 : tie.Need-returns-2 Inv-loop μ-loop

@@ -108,8 +108,8 @@ loop-again c =
     let turn = laid .before .before .before in
     let loop = turn .before .loop in
     let whole =
-        blocks-laid (blocks turn) (loop .k) (body (turn .before) .effects) (loop .e) (inside turn) (block turn) (here turn)
-        (take (loop .at) (loop .buf)) (take (laid .lay-block .result) (laid .lay-block .last .0)) _ (loop .inv .0) (laid .lay-block .ensures .1) in
+    blocks-laid (blocks turn) (loop .k) (body (turn .before) .effects) (loop .e) (inside turn) (block turn) (here turn)
+    (take (loop .at) (loop .buf)) (take (laid .lay-block .result) (laid .lay-block .last .0)) _ (loop .inv .0) (laid .lay-block .ensures .1) in
     rw (add-one (loop .k))
     (whole, omega (arith, sum turn, laid .lay-block .ensures .0, laid .lay-block .kept .0, turn .loop-test .taken))
 
@@ -134,9 +134,9 @@ returns c =
     let none = sum-end (body head .count) (loop .k) all (body head .blocks) in
     let small : loop .at ≤ 3665 = omega (arith, none, known head, began head) in
     let laid =
-        blocks-end (body head .count) (loop .k) all (body head .blocks) (drop (loop .e) (body head .effects)) (take (loop .at) (loop .buf)) _
-        (loop .inv .0)
-        ∙ ap (λ (l : List ℕ). l ++ layBlocks (take (body head .count) (body head .blocks)) (body head .effects)) (counted head) in
+    blocks-end (body head .count) (loop .k) all (body head .blocks) (drop (loop .e) (body head .effects)) (take (loop .at) (loop .buf)) _
+    (loop .inv .0)
+    ∙ ap (λ (l : List ℕ). l ++ layBlocks (take (body head .count) (body head .blocks)) (body head .effects)) (counted head) in
     (sym (length-take-le (loop .at) (loop .buf) (omega (arith, small, room head))) ∙ ap length laid, (small, laid))
 
 pub lay-spec : {M : Type 1} → statement M

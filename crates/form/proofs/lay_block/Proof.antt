@@ -38,10 +38,11 @@ returns c =
     let laid = c .before .before in
     let copied = laid .before .before .before .before in
     let made = copied .before .before .before in
-    let start = made .before .before in
-    ( omega (arith, ap length (made .block-bytes .ensures))
-    , block-laid (start .args .buf .now) _ (laid .lay-effects .last .0) _ _ _ (start .args .at) _ (laid .lay-effects .result) (omega arith) (made .block-bytes .ensures)
-      (copied .copy-in .ensures .0) (copied .copy-in .ensures .1) (laid .lay-effects .ensures .1) )
+    let start = made .before .before in (
+      omega (arith, ap length (made .block-bytes .ensures)),
+      block-laid (start .args .buf .now) _ (laid .lay-effects .last .0) _ _ _ (start .args .at) _ (laid .lay-effects .result) (omega arith) (made .block-bytes .ensures)
+          (copied .copy-in .ensures .0) (copied .copy-in .ensures .1) (laid .lay-effects .ensures .1),
+    )
 
 pub lay-block-spec : {M : Type 1} → statement M
 lay-block-spec =

@@ -58,12 +58,13 @@ loop-again c =
     let at-loop = made .before .before .before in
     let start = at-loop .before .before in
     let rest = drop (start .args .from) (start .args .t3) in
-    let in-effects : at-loop .loop .j < length rest = simp length-drop (omega (arith, start .good .1 .1 .0 .1 .0 .1)) in
-    ( rw (copied .copy-in .ensures .0, copied .copy-in .ensures .1, add-one (at-loop .loop .j))
-      (effects-laid (at-loop .loop .buf) _ (take (start .args .at) (start .args .buf .now)) (at-loop .loop .to) rest (at-loop .loop .j)
-      (omega arith) in-effects (at-loop .loop .inv .0)
-      (made .effect-bytes .ensures ∙ ap effectBytes (sym (getD-drop (start .args .from) (start .args .t3) (at-loop .loop .j) zeroEffect))))
-    , omega (arith, ten made) )
+    let in-effects : at-loop .loop .j < length rest = simp length-drop (omega (arith, start .good .1 .1 .0 .1 .0 .1)) in (
+      rw (copied .copy-in .ensures .0, copied .copy-in .ensures .1, add-one (at-loop .loop .j))
+          (effects-laid (at-loop .loop .buf) _ (take (start .args .at) (start .args .buf .now)) (at-loop .loop .to) rest (at-loop .loop .j)
+          (omega arith) in-effects (at-loop .loop .inv .0)
+          (made .effect-bytes .ensures ∙ ap effectBytes (sym (getD-drop (start .args .from) (start .args .t3) (at-loop .loop .j) zeroEffect)))),
+      omega (arith, ten made),
+    )
 
 same-length : tie.Need-same-length Inv-loop μ-loop
 same-length c = c .before .loop .inv .1 .1 .1
