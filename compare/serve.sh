@@ -9,6 +9,7 @@ here=$(cd "$(dirname "$0")" && pwd)
 rt=$(command -v rt) || { echo "serve.sh: rt is not on the path" >&2; exit 2; }
 kit=${RATTLE_HOME:-$(cd "$(dirname "$(readlink -f "$rt")")/.." && pwd)}
 tools=$kit/on/$(uname -m)/toolchain/bin
+[ -x "$tools/clang" ] || { echo "serve.sh: the proof tools at $kit have no compiler for this machine" >&2; exit 2; }
 
 case ${1-} in
 build)

@@ -135,9 +135,8 @@ fn clash(first: &Event, second: &Event) -> bool {
 /// same block on the variable has the later one between itself and any edge, so only the last one counts.
 fn pair_conflicts(events: &[Event], first: usize, second: usize) -> bool {
     let variable = events[second].variable();
-    events[first].variable() == variable
+    clash(&events[first], &events[second])
         && !events[first + 1..second].iter().any(|event| event.is_effect_on(variable))
-        && clash(&events[first], &events[second])
 }
 
 /// Does some pair of the events conflict?

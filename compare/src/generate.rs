@@ -152,7 +152,8 @@ impl Taste {
     /// One to `most` variables; small costs often, so that weights tie.
     fn drawn(random: &mut Random, most: usize) -> Taste {
         let mut variables: Vec<u8> = (0..=HIGHEST_VARIABLE).collect();
-        while variables.len() > 1 + random.below(most) {
+        let many = 1 + random.below(most);
+        while variables.len() > many {
             variables.remove(random.below(variables.len()));
         }
         let anywhere = random.draw() as i32;
@@ -453,20 +454,25 @@ fn noisy_records(random: &mut Random) -> Vec<u8> {
     bytes
 }
 
-/// So many blocks in a chain, with so many effects spread over them by chance. A few blocks branch.
+/// So many blocks in a chain, with so many effects spread over them by chance. At most four blocks branch, both ways to
+/// the next block, so that the ways can be listed.
 fn chain(random: &mut Random, block_count: usize, effect_count: usize) -> Parts {
     let taste = Taste::drawn(random, 4);
     let mut parts = Parts::new();
     for block in 0..block_count - 1 {
-        let next = block as u8 + 1;
-        let ending = match random.below(8) {
-            0 => taste.test(random, next, next),
-            1 => Block::open(taste.cost(random), next, next),
-            _ => Block::go(taste.cost(random), next),
-        };
-        parts.push((ending, vec![]));
+        parts.push((Block::go(taste.cost(random), block as u8 + 1), vec![]));
     }
     parts.push((Block::end(taste.cost(random)), vec![]));
+    for _ in 0..random.below(5) {
+        let branch = random.below(block_count);
+        let next = branch as u8 + 1;
+        if (next as usize) < block_count {
+            parts[branch].0 = match random.below(4) {
+                0 => Block::open(taste.cost(random), next, next),
+                _ => taste.test(random, next, next),
+            };
+        }
+    }
     for _ in 0..effect_count {
         let to = random.below(block_count);
         let effect = taste.effect(random);

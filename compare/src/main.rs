@@ -6,13 +6,15 @@ use std::process::ExitCode;
 
 use by_listing::calls::{conflicts, sweep, walk, NoAnswer, MOST_WAYS};
 use by_listing::conflict::conflict_list;
+use by_listing::counter;
 use by_listing::example::trainer_form;
-use by_listing::form::{self, Refusal, MOST_BLOCKS};
+use by_listing::form::{self, Counter, Refusal, MOST_BLOCKS};
 use by_listing::generate::{generate, Kind, KINDS};
 use by_listing::report::{report, LONGEST_LIST};
 use by_listing::rows::{swept, RowEntry, ROW_ENTRIES};
 
 const USAGE: &str = "usage: compare [report | verdict | list | rows | walked] < FORM
+       compare count INITIAL STEP RELATION LIMIT
        compare example > FORM
        compare generate KIND SEED > FORM";
 
@@ -25,6 +27,14 @@ fn main() -> ExitCode {
         ["list"] => answer(list),
         ["rows"] => answer(rows),
         ["walked"] => answer(walked),
+        ["count", initial, step, relation, limit] => {
+            match (initial.parse(), step.parse(), relation.parse(), limit.parse()) {
+                (Ok(initial), Ok(step), Ok(relation), Ok(limit)) => {
+                    count(&Counter { initial, step, relation, limit })
+                }
+                _ => usage(),
+            }
+        }
         ["example"] => print(&trainer_form()),
         ["generate", kind, seed] => match (Kind::named(kind), seed.parse()) {
             (Some(kind), Ok(seed)) => print(&generate(kind, seed)),
@@ -44,6 +54,14 @@ fn print(bytes: &[u8]) -> ExitCode {
     match io::stdout().write_all(bytes) {
         Ok(()) => ExitCode::SUCCESS,
         Err(_) => ExitCode::from(2),
+    }
+}
+
+/// The counter asked with four numbers.
+fn count(counter: &Counter) -> ExitCode {
+    match counter::count(counter) {
+        Ok(count) => print(format!("{count}\n").as_bytes()),
+        Err(refusal) => print(format!("{refusal}\n").as_bytes()),
     }
 }
 

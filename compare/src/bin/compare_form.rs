@@ -99,28 +99,32 @@ impl Proved {
         Err("this build has no proved library in it (feature `linked`): name a program after --".to_string())
     }
 
-    fn verdict(&mut self, form: &[u8]) -> FormAnswer {
+    fn verdict(&mut self, form: &[u8]) -> Result<FormAnswer, String> {
         match self {
             #[cfg(feature = "linked")]
-            Proved::Linked => linked::verdict(form),
-            Proved::Served(served) => ask(served, 1, form, &mut Lent::none()),
+            Proved::Linked => Ok(linked::verdict(form)),
+            Proved::Served(served) => ask(served, FORM_VERDICT, form, &mut Lent::none()),
         }
     }
 
-    fn rewrite(&mut self, form: &[u8], lent: &mut Lent) -> FormAnswer {
+    fn rewrite(&mut self, form: &[u8], lent: &mut Lent) -> Result<FormAnswer, String> {
         match self {
             #[cfg(feature = "linked")]
-            Proved::Linked => linked::rewrite(form, lent),
-            Proved::Served(served) => ask(served, 2, form, lent),
+            Proved::Linked => Ok(linked::rewrite(form, lent)),
+            Proved::Served(served) => ask(served, FORM_REWRITE, form, lent),
         }
     }
 }
 
-/// The calls of `serve.c` by number: 1 is `form_verdict`, 2 `form_rewrite`.
-fn ask(served: &mut Served, call: u64, form: &[u8], lent: &mut Lent) -> FormAnswer {
-    let numbers =
-        served.call(call, form, 0, lent).expect("the program that answers for the proved code went away");
-    FormAnswer { number: numbers[0], place: numbers[1] }
+/// The calls of `serve.c`, by number.
+const FORM_VERDICT: u64 = 1;
+const FORM_REWRITE: u64 = 2;
+
+fn ask(served: &mut Served, call: u64, form: &[u8], lent: &mut Lent) -> Result<FormAnswer, String> {
+    match served.call(call, form, 0, lent) {
+        Ok(numbers) => Ok(FormAnswer { number: numbers[0], place: numbers[1] }),
+        Err(error) => Err(format!("no answer from the program that has the proved code: {error}")),
+    }
 }
 
 fn main() -> ExitCode {
@@ -139,8 +143,8 @@ fn main() -> ExitCode {
     let mut rewrites = Answers::default();
     let mut compare_one = |form: &[u8], own_seed: u64, what: &str| {
         verdicts.count(listed::verdict(form).number);
-        let difference = difference(&mut proved, &mut rewrites, form, own_seed);
-        tally.check(difference.is_none(), || format!("{what}: {}", difference.unwrap_or_default()));
+        let compared = compare(&mut proved, &mut rewrites, form, own_seed);
+        tally.check(compared.is_ok(), || format!("{what}: {}", compared.unwrap_err()));
     };
     compare_one(&trainer_form(), seed, "the trainer's form");
     for place in 0..inputs {
@@ -154,12 +158,12 @@ fn main() -> ExitCode {
     tally.finish()
 }
 
-/// The first difference between the proved code and the second program on one input.
-fn difference(proved: &mut Proved, rewrites: &mut Answers, form: &[u8], seed: u64) -> Option<String> {
+/// One input by both programs; the error is the first difference.
+fn compare(proved: &mut Proved, rewrites: &mut Answers, form: &[u8], seed: u64) -> Result<(), String> {
     let asked = form.to_vec();
-    let (got, wanted) = (proved.verdict(&asked), listed::verdict(form));
+    let (got, wanted) = (proved.verdict(&asked)?, listed::verdict(form));
     if got != wanted {
-        return Some(format!("verdict {got:?}, wanted {wanted:?}"));
+        return Err(format!("verdict {got:?}, wanted {wanted:?}"));
     }
     let mut random = Random::new(seed);
     let shorter = random.below(form.len().max(1));
@@ -168,17 +172,20 @@ fn difference(proved: &mut Proved, rewrites: &mut Answers, form: &[u8], seed: u6
     for memory in lengths.map(Lent::new).into_iter().chain([Lent::none()]) {
         let (mut lent, mut mine) = (memory.clone(), memory);
         let length = mine.bytes().len();
-        let (got, wanted) = (proved.rewrite(&asked, &mut lent), listed::rewrite(form, &mut mine));
+        let (got, wanted) = (proved.rewrite(&asked, &mut lent)?, listed::rewrite(form, &mut mine));
         rewrites.count(wanted.number);
         if got != wanted {
-            return Some(format!("written into {length} bytes {got:?}, wanted {wanted:?}"));
+            return Err(format!("written into {length} bytes {got:?}, wanted {wanted:?}"));
         }
         if lent != mine {
-            return Some(format!("written into {length} bytes: {wanted:?}, but other bytes"));
+            return Err(format!("written into {length} bytes: {wanted:?}, but other bytes"));
         }
         if wanted.number == 0 && lent.bytes()[..form.len()] != *form {
-            return Some("the bytes written are not those read".to_string());
+            return Err("the bytes written are not those read".to_string());
         }
     }
-    (asked != form).then(|| "the form's own bytes were changed".to_string())
+    if asked != form {
+        return Err("the form's own bytes were changed".to_string());
+    }
+    Ok(())
 }

@@ -3,7 +3,7 @@
 use std::collections::{BTreeMap, HashSet};
 
 use by_listing::calls::{conflicts, sweep, walk, NoAnswer, MOST_WAYS};
-use by_listing::conflict::{conflict_list, edge_condition, events, has_conflict, Happening};
+use by_listing::conflict::{conflict_list, events, has_conflict, Entry, Happening, ASSIGNMENT_PAIR};
 use by_listing::form::{read, write, Body, GO, MOST_BLOCKS, OPEN, TEST};
 use by_listing::generate::{generate, mixed, mixed_accepted, Kind, KINDS};
 use by_listing::report::LONGEST_LIST;
@@ -160,26 +160,32 @@ fn sets_twice(body: &Body, block: usize) -> bool {
     variables.iter().collect::<HashSet<_>>().len() < variables.len()
 }
 
-/// Every conflict of a route stands in the list. The list is strictly ascending, and its pairs are of the right kind.
+/// A route has a conflict exactly when some entry of the list stands on it with no effect between. The list ascends.
 fn check_list(tally: &mut Tally, body: &Body, form: &[u8], what: &str) {
     let list = conflict_list(body);
     let mut out = vec![0; LONGEST_LIST];
     tally.equal(what, conflicts(form, &mut out), Ok(5 * list.len()));
     tally.check(list.windows(2).all(|two| two[0] < two[1]), || format!("{what}: the list does not ascend"));
-    let seconds: HashSet<(usize, u8)> =
-        list.iter().map(|entry| (entry.second_block as usize, entry.second_outcome)).collect();
     for_each_way(body, 0, |way, _| {
-        let has_a_listed_second =
-            way.iter().any(|step| step.left.is_some_and(|left| seconds.contains(&(step.block, left as u8))));
-        let conflicts = has_conflict(&events(body, way));
-        tally.check(!conflicts || has_a_listed_second, || format!("{what}: an unlisted conflict on {way:?}"));
+        let by_list = list.iter().any(|entry| stands_on(body, way, entry));
+        let by_events = has_conflict(&events(body, way));
+        tally.check(by_list == by_events, || format!("{what}: by list {by_list}, by events {by_events}: {way:?}"));
     });
-    for entry in &list {
-        let second = &body.blocks[entry.second_block as usize];
-        let way = if entry.second_outcome == 1 { Way::Jump } else { Way::Fall };
-        let is_right = edge_condition(second, way).is_some() && entry.first_block <= entry.second_block;
-        tally.check(is_right, || format!("{what}: {entry:?}"));
-    }
+}
+
+/// Do the entry's two stand on the way in order, with no effect on the variable in a block after the first's, up to
+/// and with the second's?
+fn stands_on(body: &Body, way: &[Step], entry: &Entry) -> bool {
+    let place_of = |block: u8| way.iter().position(|step| step.block == block as usize);
+    let (Some(first), Some(second)) = (place_of(entry.first_block), place_of(entry.second_block)) else {
+        return false;
+    };
+    let left_so = |step: &Step, outcome: u8| step.left.is_some_and(|left| left as u8 == outcome);
+    let variable = body.blocks[entry.second_block as usize].variable;
+    let has_effect = |step: &Step| body.effects_of(step.block).iter().any(|effect| effect.variable == variable);
+    left_so(&way[second], entry.second_outcome)
+        && (entry.kind == ASSIGNMENT_PAIR || left_so(&way[first], entry.third))
+        && !way[first + 1..=second].iter().any(has_effect)
 }
 
 /// Walked and the heaviest route once more, with all beginnings and all routes held at once.
