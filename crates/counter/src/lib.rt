@@ -1,9 +1,9 @@
 // The counter of document 01: how often the body of a counted loop runs, in closed form. Numbers of 32 bits are worked on at
 // 64, where a difference of two, a negation and one more step still fit.
 ghost use mathlib.Core.Path.{_≡_};
-ghost use Prim.Native.Nat.{ℕ, _/_, _%_, _<_};
+ghost use Prim.Native.Nat.{_/_, _%_, _<_};
 ghost use lib.Dec.{eqb};
-ghost use lib.IntN.{ℤ, pos, negsuc, negℤ, _-ℤ_};
+ghost use lib.IntN.{pos, negℤ, _-ℤ_};
 ghost use Rattle.laws.specs.Whole.{up, dn};
 ghost use Rattle.form.specs.Relation.{meets};
 ghost use Rattle.relations.specs.Relations.{mirrored};

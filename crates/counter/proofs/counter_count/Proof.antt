@@ -1,6 +1,6 @@
 -- `counter::counter_count` meets its contract.
 use borrow.Author.Needs.{needs}
-use mathlib.Core.Path.{_≡_, subst}
+use mathlib.Core.Path.{subst}
 use mir.Facts.{toZ-ofZ}
 use Rattle.counter.specs.declared.Counted.{Counted}
 use Rattle.counter.specs.Answer.{Owed, said}
