@@ -1,0 +1,42 @@
+-- `counter::counter_count` meets its contract.
+use borrow.Author.Needs.{needs}
+use mathlib.Core.Path.{subst}
+use mir.Facts.{toZ-ofZ}
+use Rattle.counter.specs.declared.Counted.{Counted}
+use Rattle.counter.specs.Answer.{Owed, said}
+use Rattle.counter.proofs.counter_count.Statement.{statement}
+use Rattle.counter.proofs.counter_count.Tie as tie
+
+count-requires : tie.Need-count-requires
+count-requires c κs = search needs
+
+enum-known-k : tie.Need-enum-known-k
+enum-known-k c = search needs
+
+enum-known-number : tie.Need-enum-known-number
+enum-known-number c = search needs
+
+cast-t10 : tie.Need-cast-t10
+cast-t10 c = search needs
+
+-- the answer of `count`, to the numbers that this was asked with
+owed : (c : tie.After-count) → Owed (c .before .args .initial) (c .before .args .step) (c .before .args .relation) (c .before .args .limit) (said (c .count .result))
+owed c =
+    let s = c .before in
+    rw (toZ-ofZ (s .fits .initial), toZ-ofZ (s .fits .step), toZ-ofZ (s .fits .limit)) at (c .count .ensures)
+
+returns : tie.Need-returns
+returns c =
+    let a = c .before .before .before in
+    let s = a .before in
+    subst (λ (r : Counted). Owed (s .args .initial) (s .args .step) (s .args .relation) (s .args .limit) (said r)) (c .before .k .given .1) (owed a)
+
+returns-2 : tie.Need-returns-2
+returns-2 c =
+    let a = c .before .before .before in
+    let s = a .before in
+    subst (λ (r : Counted). Owed (s .args .initial) (s .args .step) (s .args .relation) (s .args .limit) (said r)) (c .before .number .given .1) (owed a)
+
+pub counter-count-spec : {M : Type 1} → statement M
+counter-count-spec =
+    tie.close (tie.spec count-requires enum-known-k enum-known-number cast-t10 returns returns-2)
