@@ -1,0 +1,87 @@
+-- `desk::somniaret_rewrite` meets its contract: a refused form is answered by its verdict, an accepted one by the writer.
+use mathlib.Core.Bool.{Bool, true}
+use mathlib.Core.Path.{_≡_, ap, sym, _∙_}
+use borrow.Author.Tests.{not-true, not-false}
+use lib.ListN.{length}
+use Rattle.form.specs.declared.Body.{Body}
+use Rattle.form.specs.declared.Reading.{Reading}
+use Rattle.form.specs.Form.{judge, bodyOf, lay}
+use Rattle.form.specs.Answer.{accepted, written, heldAfter}
+use Rattle.desk.specs.Answer.{verdictAnswer, writtenAnswer}
+use borrow.Author.Needs.{needs}
+use Rattle.desk.proofs.somniaret_rewrite.Statement.{statement}
+use Rattle.desk.proofs.somniaret_rewrite.Tie as tie
+use Rattle.desk.proofs.somniaret_rewrite.Reads as reads
+use Rattle.desk.proofs.somniaret_rewrite.Lts as lts
+use Rattle.desk.proofs.of_verdict.Reads as of-verdict-reads
+use Rattle.desk.proofs.of_written.Reads as of-written-reads
+use Rattle.form.proofs.accepts.Reads as accepts-reads
+use Rattle.form.proofs.read.Reads as read-reads
+use Rattle.form.proofs.write.Reads as write-reads
+
+-- what the reader gave: the verdict, and the body of an accepted form
+verdict-is : (c : tie.After-read) → c .read .result .verdict ≡ judge (c .before .before .before .args .bytes .now)
+verdict-is c = ap (λ (r : Reading). r .verdict) (c .read .ensures)
+
+body-is :
+    (c : tie.After-read) → accepted (judge (c .before .before .before .args .bytes .now)) ≡ true
+    → c .read .result .body ≡ bodyOf (c .before .before .before .args .bytes .now)
+body-is c e = ap (λ (r : Reading). r .body) (c .read .ensures) ∙ rw e
+
+-- src/lib.rt:61:9
+read-requires : tie.Need-read-requires
+read-requires c κs = search needs
+
+-- src/lib.rt:63:9
+accepts-requires : tie.Need-accepts-requires
+accepts-requires c κs = search needs
+
+-- src/lib.rt:64:9
+of-verdict-requires : tie.Need-of-verdict-requires
+of-verdict-requires c κs = search needs
+
+-- src/lib.rt:64:9
+returns : tie.Need-returns
+returns c =
+    let tested = c .before .before in
+    let same = verdict-is (tested .before) in
+    let refused = ap accepted (sym same) ∙ (sym (tested .accepts .ensures) ∙ not-true _ (c .before .if1 .taken)) in
+    (rw refused (c .of-verdict .ensures ∙ ap verdictAnswer same), rw refused)
+
+-- src/lib.rt:67:16
+write-requires : tie.Need-write-requires
+write-requires c κs = search needs
+
+-- src/lib.rt:67:5
+of-written-requires : tie.Need-of-written-requires
+of-written-requires c κs = search needs
+
+-- src/lib.rt:57:1
+same-length : tie.Need-same-length
+same-length c = search needs
+
+-- src/lib.rt:57:1
+returns-2 : tie.Need-returns-2
+returns-2 c =
+    let wrote = c .before .before .before in
+    let tested = wrote .before .before .before .before in
+    let read = tested .before in
+    let accepting = ap accepted (sym (verdict-is read)) ∙ (sym (tested .accepts .ensures) ∙ not-false _ (wrote .before .before .before .if1 .left)) in
+    let body = body-is read accepting in
+    let out = read .before .before .before .args .out .now in
+    let answer = wrote .write .ensures .0 ∙ ap (λ (b : Body). written b (length out)) body in
+    ( rw accepting (c .of-written .ensures ∙ ap writtenAnswer answer)
+    , rw accepting (wrote .write .ensures .1 ∙ (λ i. heldAfter (answer i) (lay (body i)) out)) )
+
+pub somniaret-rewrite-spec : {M : Type 1} → statement M
+somniaret-rewrite-spec =
+    tie.close
+    (tie.spec
+    read-requires
+    accepts-requires
+    of-verdict-requires
+    returns
+    write-requires
+    of-written-requires
+    same-length
+    returns-2)
