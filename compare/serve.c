@@ -11,8 +11,8 @@ struct form_answer {
     word place;
 };
 
-struct form_answer form_verdict(const byte *form, word len);
-struct form_answer form_rewrite(const byte *form, word len, byte *out, word out_len);
+struct form_answer somniaret_verdict(const byte *form, word len);
+struct form_answer somniaret_rewrite(const byte *form, word len, byte *out, word out_len);
 
 enum { FORM_VERDICT = 1, FORM_REWRITE = 2 };
 
@@ -119,10 +119,10 @@ void serve(void)
         struct form_answer answer;
         switch (call) {
         case FORM_VERDICT:
-            answer = form_verdict(form, form_len);
+            answer = somniaret_verdict(form, form_len);
             break;
         case FORM_REWRITE:
-            answer = form_rewrite(form, form_len, out, out_len);
+            answer = somniaret_rewrite(form, form_len, out, out_len);
             break;
         default:
             leave(4);

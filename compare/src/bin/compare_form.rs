@@ -20,7 +20,7 @@ use by_listing::tally::Tally;
 
 const INPUTS: u64 = 30_000;
 
-/// A refusal's number and place; or number 0, and for `form_rewrite` the number of bytes written as the place.
+/// A refusal's number and place; or number 0, and for `somniaret_rewrite` the number of bytes written as the place.
 #[repr(C)]
 #[derive(Clone, Copy, Debug, PartialEq, Eq)]
 struct FormAnswer {
@@ -54,8 +54,8 @@ mod linked {
     use std::ptr;
 
     extern "C" {
-        fn form_verdict(form: *const u8, len: usize) -> FormAnswer;
-        fn form_rewrite(form: *const u8, len: usize, out: *mut u8, out_len: usize) -> FormAnswer;
+        fn somniaret_verdict(form: *const u8, len: usize) -> FormAnswer;
+        fn somniaret_rewrite(form: *const u8, len: usize, out: *mut u8, out_len: usize) -> FormAnswer;
     }
 
     /// No bytes at all are given as a null pointer.
@@ -68,14 +68,14 @@ mod linked {
     }
 
     pub fn verdict(form: &[u8]) -> FormAnswer {
-        unsafe { form_verdict(start(form), form.len()) }
+        unsafe { somniaret_verdict(start(form), form.len()) }
     }
 
     pub fn rewrite(form: &[u8], lent: &mut Lent) -> FormAnswer {
         let nothing_around = lent.with_guards().1.is_empty();
         let out = lent.bytes();
         let to = if nothing_around { ptr::null_mut() } else { out.as_mut_ptr() };
-        unsafe { form_rewrite(start(form), form.len(), to, out.len()) }
+        unsafe { somniaret_rewrite(start(form), form.len(), to, out.len()) }
     }
 }
 

@@ -9,14 +9,17 @@ use Rattle.form.specs.Form.{when, judge, bodyOf, lay}
 use Rattle.form.specs.Answer.{accepted, numberOf, placeOf, written, heldAfter}
 use Rattle.desk.specs.declared.FormAnswer.{FormAnswer}
 
+abbrev pub formAnswer : ℕ → ℕ → FormAnswer
+formAnswer number place = record { number = number; place = place }
+
 -- The reader's verdict on any bytes
 abbrev pub verdictAnswer : Verdict → FormAnswer
-verdictAnswer v = record { number = numberOf v; place = placeOf v }
+verdictAnswer v = formAnswer (numberOf v) (placeOf v)
 
 -- The writer's answer; with number 0 the place is the number of bytes written
 abbrev pub writtenAnswer : Written → FormAnswer
-writtenAnswer (Bytes count) = record { number = 0; place = count }
-writtenAnswer (Unwritten number place) = record { number = number; place = place }
+writtenAnswer (Bytes count) = formAnswer 0 count
+writtenAnswer (Unwritten number place) = formAnswer number place
 
 -- The form read, and its body written back
 abbrev pub rewriteAnswer : List ℕ → ℕ → FormAnswer

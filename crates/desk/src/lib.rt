@@ -3,7 +3,7 @@
 ghost use mathlib.Core.Path.{_≡_};
 ghost use lib.ListN.{length};
 ghost use Rattle.form.specs.Form.{judge};
-ghost use Rattle.desk.specs.Answer.{verdictAnswer, writtenAnswer, rewriteAnswer, rewriteHeld};
+ghost use Rattle.desk.specs.Answer.{formAnswer, verdictAnswer, writtenAnswer, rewriteAnswer, rewriteHeld};
 
 use form::Verdict;
 use form::Written;
@@ -15,18 +15,18 @@ pub struct FormAnswer {
     pub place: u64,
 }
 
+fn answer(number: u64, place: u64) -> FormAnswer
+    ensures { λ r. ⌜ r ≡ formAnswer number place ⌝ }
+{
+    FormAnswer { number, place }
+}
+
 fn of_verdict(verdict: Verdict) -> FormAnswer
     ensures { λ r. ⌜ r ≡ verdictAnswer verdict ⌝ }
 {
     match verdict {
-        Verdict::Accepted => FormAnswer {
-            number: 0,
-            place: 0,
-        },
-        Verdict::Refused { number, place } => FormAnswer {
-            number: number as u64,
-            place: place as u64,
-        },
+        Verdict::Accepted => answer(0, 0),
+        Verdict::Refused { number, place } => answer(number as u64, place as u64),
     }
 }
 
@@ -34,14 +34,8 @@ fn of_written(written: Written) -> FormAnswer
     ensures { λ r. ⌜ r ≡ writtenAnswer written ⌝ }
 {
     match written {
-        Written::Bytes(count) => FormAnswer {
-            number: 0,
-            place: count as u64,
-        },
-        Written::Unwritten { number, place } => FormAnswer {
-            number: number as u64,
-            place: place as u64,
-        },
+        Written::Bytes(count) => answer(0, count as u64),
+        Written::Unwritten { number, place } => answer(number as u64, place as u64),
     }
 }
 
