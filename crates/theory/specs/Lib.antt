@@ -14,3 +14,4 @@ pub mod Forward
 pub mod Passes
 pub mod Answer
 pub mod Listing
+pub mod Bound

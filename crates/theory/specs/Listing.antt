@@ -16,23 +16,12 @@ use Rattle.form.specs.Conflict.{Edge, Pair, exits, isTest, condition, contradic
 use Rattle.relations.specs.Conditions.{contradict-says}
 use Rattle.relations.specs.ConflictList.{conflicts-hold}
 use Rattle.theory.specs.Row.{same, listed}
-use Rattle.theory.specs.Steps.{Real, against, same-refl, same-eq}
+use Rattle.theory.specs.Steps.{Real, against, denies-test, opposes-out, same-refl, same-eq}
 use Rattle.theory.specs.Backward.{Listing}
 
 module _ (body : Body) where
-  opposes-out : (x e : Edge) → opposes body x e ≡ true → (isTest body (x .0) ≡ true) × (isTest body (e .0) ≡ true) × (contradict (condition body x) (condition body e) ≡ true)
-  unfolding opposes
-  opposes-out x e h =
-      let (t, k) = and-out (isTest body (x .0) && isTest body (e .0)) _ h in
-      let (a, b) = and-out (isTest body (x .0)) _ t in
-      (a, b, k)
-
-  denies-test : (b : ℕ) (e : Edge) → denies body b e ≡ true → isTest body (e .0) ≡ true
-  unfolding denies
-  denies-test b e h = and-out (isTest body (e .0)) _ h .0
-
   holds-test : (p : Pair) → Holds body p → isTest body (p .second) ≡ true
-  holds-test p (r, inl (k, v, a)) = denies-test (p .first) (secondOf p) (a .0)
+  holds-test p (r, inl (k, v, a)) = denies-test body (p .first) (secondOf p) (a .0)
   holds-test p (r, inr (k, c)) = c .1
 
   -- a pair of the list, with its first below b
@@ -55,7 +44,7 @@ module _ (body : Body) where
     wider = λ b c e h k. let (p, m, q, l) = listed-out (conflicts body) b e k in listed-in (conflicts body) c e p m q (omega arith);
     tests = λ b e k. let (p, m, q, l) = listed-out (conflicts body) b e k in rw (← q) (holds-test p ((conflicts-hold body w p) .0 m));
     live = λ x e u m r a c. or-out (opposes body x e) _ a
-        (λ o. let (s, t, k) = opposes-out x e o in
+        (λ o. let (s, t, k) = opposes-out body x e o in
         listed-in (conflicts body) u e (edgePair e (x .0) (x .1, u))
         ((conflicts-hold body w (edgePair e (x .0) (x .1, u))) .1 (r, inr (refl, (s, t, (contradict-says (condition body x) (condition body e)) .0 k, (u, m, c))))) refl (w .above (x .0) (x .1, u) m))
         (λ d. listed-in (conflicts body) u e (assignmentPair body e (x .0))

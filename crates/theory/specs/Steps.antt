@@ -1,5 +1,5 @@
 -- The steps of a body's paths: what a path with one more step in front is, for walks in the graph, conflict, and the edges that a path leaves bare.
--- Rests on Route, Row and form's Conflict, whose tests it uses as they are: it does not look into them.
+-- Rests on Route, Row and form's Conflict, whose tests it hardly looks into.
 use mathlib.Core.Path.{_≡_, refl, sym, ap, ap₂, subst, _∙_}
 use mathlib.Core.Logic.{_⊎_, inl, inr}
 use mathlib.Core.Bool.{Bool, true, false, not, _||_, _&&_, or-assoc, or-false, and-true, and-or-distrib-right}
@@ -13,7 +13,7 @@ use Rattle.laws.specs.Terms.{Mem, any, before}
 use Rattle.laws.specs.Tests.{both, four, nor, nor-swap, and-out, and-in, or-out, or-no, or-none, not-out, any-in, any-out, any-and, any-or, any-same, eqb-same}
 use Rattle.form.specs.declared.Body.{Body}
 use Rattle.form.specs.declared.Block.{Block}
-use Rattle.form.specs.Conflict.{Edge, block, exitsBy, exits, isTest, condition, touches, opposes, denies, Onward, Clean}
+use Rattle.form.specs.Conflict.{Edge, block, exitsBy, exits, isTest, condition, contradict, touches, opposes, denies, Onward, Clean}
 use Rattle.form.specs.Conflict.Clean.{here, onward}
 use Rattle.theory.specs.Route.{Path, at, overwritten, conflict}
 use Rattle.theory.specs.Row.{same, bare}
@@ -50,6 +50,18 @@ module _ (body : Body) where
   -- what of the step x conflicts with e: its edge, or a constant of its block
   abbrev pub against : Edge → Edge → Bool
   against x e = opposes body x e || denies body (x .0) e
+
+  -- only tests' edges are denied or opposed
+  pub denies-test : (b : ℕ) (e : Edge) → denies body b e ≡ true → isTest body (e .0) ≡ true
+  unfolding denies
+  denies-test b e h = and-out (isTest body (e .0)) _ h .0
+
+  pub opposes-out : (x e : Edge) → opposes body x e ≡ true → (isTest body (x .0) ≡ true) × (isTest body (e .0) ≡ true) × (contradict (condition body x) (condition body e) ≡ true)
+  unfolding opposes
+  opposes-out x e h =
+      let (t, k) = and-out (isTest body (x .0) && isTest body (e .0)) _ h in
+      let (a, b) = and-out (isTest body (x .0)) _ t in
+      (a, b, k)
 
   -- an exit of the body
   abbrev pub Real : Edge → Type 0
