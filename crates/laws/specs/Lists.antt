@@ -129,6 +129,10 @@ module _ {A B : Type 0} where
       go true h = ap (λ t. g x ∷ t) h
       go false h = h
 
+  pub map-same : (f g : A → B) (l : List A) → ((x : A) → Mem x l → f x ≡ g x) → map f l ≡ map g l
+  map-same f g [] h = refl
+  map-same f g (x ∷ l) h = rw (h x (inl refl), map-same f g l (λ y m. h y (inr m)))
+
   pub each-same : (l : List A) (f g : A → List B) → ((x : A) → Mem x l → f x ≡ g x) → each l f ≡ each l g
   each-same [] f g h = refl
   each-same (x ∷ l) f g h = rw (h x (inl refl), each-same l f g (λ y m. h y (inr m)))

@@ -15,3 +15,4 @@ pub mod Passes
 pub mod Answer
 pub mod Listing
 pub mod Bound
+pub mod Ties

@@ -17,7 +17,7 @@ use Rattle.form.specs.declared.Body.{Body}
 use Rattle.form.specs.Conflict.{Edge, exits}
 use Rattle.theory.specs.Route.{Path, lastBlock, paths, beginnings, weight, weighed}
 use Rattle.theory.specs.Machine.{Val, grow, Machine, base, spread, passed}
-use Rattle.theory.specs.Walk.{arrive, extend, ifAllowed, visitBy, visits, whole, whole-behind}
+use Rattle.theory.specs.Walk.{arrive, extend, ifAllowed, visitBy, visits, whole}
 use Rattle.theory.specs.Steps.{Leads}
 use Rattle.theory.specs.Forward.{goesOn, allowed}
 use Rattle.theory.specs.Backward.{thenStep, readBack}
@@ -72,33 +72,46 @@ module _ (body : Body) (cost : ℕ → ℕ → ℕ) where
   visits-begin zero b = refl
   visits-begin (suc n) b = ap (λ t. [] ∷ t) (begin-by (λ t. visits free n t tt) (beginnings body n) (visits-begin n) b (exits body b))
 
-  whole-append : (l r : List (ℕ × Val)) → whole (body .count) (l ++ r) ≡ whole (body .count) l ++ whole (body .count) r
-  whole-append l r = ap (map (λ (e : ℕ × Val). e .1)) (only-append (λ (e : ℕ × Val). eqb (suc (e .0)) (body .count)) l r) ∙ map-append (λ (e : ℕ × Val). e .1) (only (λ (e : ℕ × Val). eqb (suc (e .0)) (body .count)) l) (only (λ (e : ℕ × Val). eqb (suc (e .0)) (body .count)) r)
+  -- the weights and paths of the whole ones
+  abbrev pub wholes : List (ℕ × Val) → List Val
+  wholes l = map (λ e. e .1) (whole (body .count) l)
+
+  abbrev ending : ℕ × Val → Bool
+  ending e = eqb (suc (e .0)) (body .count)
+
+  wholes-append : (l r : List (ℕ × Val)) → wholes (l ++ r) ≡ wholes l ++ wholes r
+  wholes-append l r = ap (map (λ (e : ℕ × Val). e .1)) (only-append ending l r) ∙ map-append (λ (e : ℕ × Val). e .1) (only ending l) (only ending r)
+
+  wholes-extend : (b way : ℕ) (l : List (ℕ × Val)) → wholes (map (extend free b way) l) ≡ map (grow (cost b way) (b, way)) (wholes l)
+  wholes-extend b way l =
+      ap (map (λ (e : ℕ × Val). e .1)) (only-map ending (extend free b way) l)
+      ∙ map-map (λ (e : ℕ × Val). e .1) (extend free b way) (only ending l)
+      ∙ sym (map-map (grow (cost b way) (b, way)) (λ (e : ℕ × Val). e .1) (only ending l))
 
   weigh-step : (x : Edge) (l : List Path) → map (grow (cost (x .0) (x .1)) x) (map (weighed body cost) l) ≡ map (weighed body cost) (map (λ p. x ∷ p) l)
   unfolding weight
   weigh-step x [] = refl
   weigh-step x (p ∷ l) = ap (λ t. (cost (x .0) (x .1) + weight cost (lastBlock body) p, x ∷ p) ∷ t) (weigh-step x l)
 
-  whole-by : (R : ℕ → List (ℕ × Val)) (P : ℕ → List Path) → ((t : ℕ) → whole (body .count) (R t) ≡ map (weighed body cost) (P t)) → (b : ℕ) (os : List (ℕ × ℕ))
-      → whole (body .count) (visitBy free (λ t u. R t) b tt os) ≡ map (weighed body cost) (each os (λ o. map (λ p. (b, o .0) ∷ p) (P (o .1))))
+  whole-by : (R : ℕ → List (ℕ × Val)) (P : ℕ → List Path) → ((t : ℕ) → wholes (R t) ≡ map (weighed body cost) (P t)) → (b : ℕ) (os : List (ℕ × ℕ))
+      → wholes (visitBy free (λ t u. R t) b tt os) ≡ map (weighed body cost) (each os (λ o. map (λ p. (b, o .0) ∷ p) (P (o .1))))
   whole-by R P h b [] = refl
   whole-by R P h b (o ∷ os) =
-      whole-append (map (extend free b (o .0)) (R (o .1))) (visitBy free (λ t u. R t) b tt os)
-      ∙ ap₂ _++_ (whole-behind (body .count) (grow (cost b (o .0)) (b, o .0)) (R (o .1)) ∙ ap (map (grow (cost b (o .0)) (b, o .0))) (h (o .1)) ∙ weigh-step (b, o .0) (P (o .1))) (whole-by R P h b os)
+      wholes-append (map (extend free b (o .0)) (R (o .1))) (visitBy free (λ t u. R t) b tt os)
+      ∙ ap₂ _++_ (wholes-extend b (o .0) (R (o .1)) ∙ ap (map (grow (cost b (o .0)) (b, o .0))) (h (o .1)) ∙ weigh-step (b, o .0) (P (o .1))) (whole-by R P h b os)
       ∙ sym (map-append (weighed body cost) (map (λ (p : Path). (b, o .0) ∷ p) (P (o .1))) (each os (λ o. map (λ p. (b, o .0) ∷ p) (P (o .1)))))
 
   ends-in : (b : ℕ) → suc b ≡ body .count → (cost b 0, []) ≡ weighed body cost []
   unfolding weight
   ends-in b e = let d : b ≡ lastBlock body = omega arith in ap (λ k. (cost k 0, [])) d
 
-  whole-cons : (c : Bool) (b : ℕ) (l : List (ℕ × Val)) (m : List Path) → eqb (suc b) (body .count) ≡ c → whole (body .count) l ≡ map (weighed body cost) m
-      → map (λ (e : ℕ × Val). e .1) (cond c (arrive free b ∷ only (λ (e : ℕ × Val). eqb (suc (e .0)) (body .count)) l) (only (λ (e : ℕ × Val). eqb (suc (e .0)) (body .count)) l))
+  whole-cons : (c : Bool) (b : ℕ) (l : List (ℕ × Val)) (m : List Path) → eqb (suc b) (body .count) ≡ c → wholes l ≡ map (weighed body cost) m
+      → map (λ (e : ℕ × Val). e .1) (cond c (arrive free b ∷ only ending l) (only ending l))
       ≡ map (weighed body cost) (cond c ([] ∷ []) [] ++ m)
   whole-cons true b l m h k = λ i. ends-in b (eqb-true (suc b) (body .count) h) i ∷ k i
   whole-cons false b l m h k = k
 
-  pub visits-whole : (n b : ℕ) → whole (body .count) (visits free n b tt) ≡ map (weighed body cost) (paths body n b)
+  pub visits-whole : (n b : ℕ) → wholes (visits free n b tt) ≡ map (weighed body cost) (paths body n b)
   unfolding visits paths
   visits-whole zero b = refl
   visits-whole (suc n) b = whole-cons _ b (visitBy free (λ t u. visits free n t u) b tt (exits body b)) _ refl (whole-by (λ t. visits free n t tt) (paths body n) (visits-whole n) b (exits body b))
