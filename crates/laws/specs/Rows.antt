@@ -4,8 +4,11 @@
 use mathlib.Core.Path.{_≡_, refl, sym, ap, _∙_, subst}
 use mathlib.Core.Logic.{_⊎_, inl, inr}
 use mathlib.Core.Bool.{Bool, true, false, not, cond}
-use mathlib.Core.List.{List, [], _∷_, _++_}
+use mathlib.Core.List.{List, [], _∷_, _++_, map}
 use mathlib.Core.Option.{Option, none, some}
+use Prim.Native.Nat.{ℕ, suc, _≤_}
+use native.Mathlib.Omega.{arith}
+use lib.ListN.{length}
 use Rattle.laws.specs.Terms.{Mem}
 use Rattle.laws.specs.Tests.{split, clash}
 use Rattle.laws.specs.Orders.{Order, asym, ntrans}
@@ -233,3 +236,39 @@ module _ {K B : Type 0} (s : K → Option K) (g : B → B) where
 pub record IsRow {K B : Type 0} (lt : K → K → Bool) (bt : B → B → Bool) (l r : List (K × B)) : Type 0 where
   pub asc : Asc lt bt r
   pub covers : Covers bt l r
+
+-- ---- insertion of other values in the place of these, and lengths
+
+module _ {K B C : Type 0} (lt : K → K → Bool) (bt : B → B → Bool) (ct : C → C → Bool) (φ : B → C) where
+  abbrev pub across : K × B → K × C
+  across e = (e .0, φ (e .1))
+
+  keep-across : (c : Bool) (e x : K × B) → cond c (across e) (across x) ≡ across (cond c e x)
+  keep-across true e x = refl
+  keep-across false e x = refl
+
+  place-across : (a b : Bool) (e x : K × B) (r i : List (K × B)) → ct (φ (e .1)) (φ (x .1)) ≡ bt (e .1) (x .1)
+      → place lt ct a b (across e) (across x) (map across r) (map across i) ≡ map across (place lt bt a b e x r i)
+  place-across true b e x r i h = refl
+  place-across false true e x r i h = refl
+  place-across false false e x r i h = ap (λ t. t ∷ map across r) (ap (λ c. cond c (across e) (across x)) h ∙ keep-across (bt (e .1) (x .1)) e x)
+
+  -- where the two tests agree, the insertions do
+  pub insert-across : (e : K × B) (r : List (K × B)) → ((x : K × B) → Mem x r → ct (φ (e .1)) (φ (x .1)) ≡ bt (e .1) (x .1)) → insert lt ct (across e) (map across r) ≡ map across (insert lt bt e r)
+  unfolding insert
+  insert-across e [] h = refl
+  insert-across e (x ∷ r) h =
+      ap (place lt ct (lt (e .0) (x .0)) (lt (x .0) (e .0)) (across e) (across x) (map across r)) (insert-across e r (λ y m. h y (inr m)))
+      ∙ place-across (lt (e .0) (x .0)) (lt (x .0) (e .0)) e x r (insert lt bt e r) (h x (inl refl))
+
+module _ {K B : Type 0} (lt : K → K → Bool) (bt : B → B → Bool) where
+  place-grows : (a b : Bool) (e x : K × B) (r i : List (K × B)) → length r ≤ length i → length (x ∷ r) ≤ length (place lt bt a b e x r i)
+  place-grows true b e x r i h = omega arith
+  place-grows false true e x r i h = omega arith
+  place-grows false false e x r i h = omega arith
+
+  -- an insertion takes no entry away
+  pub insert-grows : (e : K × B) (r : List (K × B)) → length r ≤ length (insert lt bt e r)
+  unfolding insert
+  insert-grows e [] = omega arith
+  insert-grows e (x ∷ r) = place-grows (lt (e .0) (x .0)) (lt (x .0) (e .0)) e x r (insert lt bt e r) (insert-grows e r)

@@ -16,3 +16,4 @@ pub mod Answer
 pub mod Listing
 pub mod Bound
 pub mod Ties
+pub mod SweepWords

@@ -19,7 +19,7 @@ use Rattle.laws.specs.Sets.{ext, setOf-lt, bit-setOf, bit-beyond, bit-with, low
 use Rattle.form.specs.declared.Body.{Body}
 use Rattle.form.specs.declared.Block.{Block}
 use Rattle.form.specs.Conflict.{Edge, block, exitsBy, exits, Onward}
-use Rattle.theory.specs.Route.{Path, lastBlock}
+use Rattle.theory.specs.Route.{Path, lastBlock, wayOf}
 use Rattle.theory.specs.Row.{same, leftBy}
 use Rattle.theory.specs.Machine.{edgeBefore, edge-order, first, first-order}
 use Rattle.theory.specs.Steps.{Way, way-of, Leads, same-refl, same-eq}
@@ -98,6 +98,25 @@ module _ (body : Body) where
 
     not-low : (b t : ℕ) (p : Path) (way k : ℕ) → Leads body b p t → k < b → leaves way p k ≡ false
     not-low b t p way k l h = is-false (leaves way p k) (λ a. let z : ⊥ = omega (arith, low b t p way k l a) in z)
+
+    -- ---- the route byte of a block, by the sets
+
+    way-by : (v : ℕ) (c d : Bool) → Way v → c ≡ false → d ≡ false → v ≡ cond (eqb v 1 || c) 1 (cond (eqb v 2 || d) 2 0)
+    way-by v c d (inl p) h k = rw p refl
+    way-by v c d (inr p) h k = rw (p, h) refl
+
+    pub way-words : (c t : ℕ) (p : Path) (b : ℕ) → Leads body c p t → wayOf b p ≡ cond (leaves 1 p b) 1 (cond (leaves 2 p b) 2 0)
+    unfolding wayOf
+    way-words c t [] b l = refl
+    way-words c t (x ∷ p) b l = by (eqb (x .0) b) refl (way-words (l .0) t p b (l .3))
+      where
+        absent : (way : ℕ) → x .0 ≡ b → leaves way p b ≡ false
+        absent way e = not-low (l .0) t p way b (l .3) (let d = l .1 in omega (arith, w .above c (x .1, l .0) (l .2)))
+
+        by : (d : Bool) → eqb (x .0) b ≡ d → wayOf b p ≡ cond (leaves 1 p b) 1 (cond (leaves 2 p b) 2 0)
+            → cond d (x .1) (wayOf b p) ≡ cond (d && eqb (x .1) 1 || leaves 1 p b) 1 (cond (d && eqb (x .1) 2 || leaves 2 p b) 2 0)
+        by true e h = let q = eqb-true (x .0) b e in way-by (x .1) (leaves 1 p b) (leaves 2 p b) (way-of body c (x .1, l .0) (l .2)) (absent 1 q) (absent 2 q)
+        by false e h = h
 
     -- the lowest block that p leaves by jump and q does not; below it they agree
     pub record Parts (p q : Path) : Type 0 where
