@@ -17,3 +17,4 @@ pub mod Listing
 pub mod Bound
 pub mod Ties
 pub mod SweepWords
+pub mod WalkWords

@@ -63,14 +63,14 @@ module _ (body : Body) where
   unfolding leftBy
   left-lt way p = setOf-lt (body .count) (leaves way p)
 
-  mark-bit : (way : ℕ) (x : Edge) (s k : ℕ) → bit (mark way x s) k ≡ (same x (k, way) || bit s k)
+  pub mark-bit : (way : ℕ) (x : Edge) (s k : ℕ) → bit (mark way x s) k ≡ (same x (k, way) || bit s k)
   mark-bit way x s k = by (eqb (x .1) way) refl
     where
       by : (c : Bool) → eqb (x .1) way ≡ c → bit (cond c (bitOr s (2 ^ x .0)) s) k ≡ (same x (k, way) || bit s k)
       by true e = bit-with s (x .0) k ∙ or-comm (bit s k) (eqb k (x .0)) ∙ ap (λ c. c || bit s k) (eqb-swap k (x .0) ∙ sym (and-true (eqb (x .0) k)) ∙ ap (λ c. eqb (x .0) k && c) (sym e))
       by false e = rw (e, and-false (eqb (x .0) k))
 
-  mark-lt : (n way : ℕ) (x : Edge) (s : ℕ) → x .0 < n → s < 2 ^ n → mark way x s < 2 ^ n
+  pub mark-lt : (n way : ℕ) (x : Edge) (s : ℕ) → x .0 < n → s < 2 ^ n → mark way x s < 2 ^ n
   mark-lt n way x s h l = by (eqb (x .1) way)
     where
       by : (c : Bool) → cond c (bitOr s (2 ^ x .0)) s < 2 ^ n
