@@ -3,14 +3,14 @@
 -- (`ext`) keeps it. Rests on Orders and Lists.
 use mathlib.Core.Path.{_≡_, refl, sym, ap, _∙_, subst}
 use mathlib.Core.Logic.{_⊎_, inl, inr}
-use mathlib.Core.Bool.{Bool, true, false, not, cond}
+use mathlib.Core.Bool.{Bool, true, false, cond}
 use mathlib.Core.List.{List, [], _∷_, _++_, map}
 use mathlib.Core.Option.{Option, none, some}
-use Prim.Native.Nat.{ℕ, suc, _≤_}
+use Prim.Native.Nat.{_≤_}
 use native.Mathlib.Omega.{arith}
 use lib.ListN.{length}
 use Rattle.laws.specs.Terms.{Mem}
-use Rattle.laws.specs.Tests.{split, clash}
+use Rattle.laws.specs.Tests.{clash}
 use Rattle.laws.specs.Orders.{Order, asym, ntrans}
 use Rattle.laws.specs.Lists.{mem-left, mem-right, mem-append, mem-swap}
 

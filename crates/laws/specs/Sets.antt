@@ -5,14 +5,14 @@ use mathlib.Core.Path.{_≡_, refl, sym, ap, ap₂, _∙_, subst}
 use mathlib.Core.Logic.{_⊎_, inl, inr, _↔_}
 use mathlib.Core.Bool.{Bool, true, false, not, _&&_, _||_, true≢false, false≢true, and-true, and-false}
 use Prim.Native.Nat.{ℕ, zero, suc, _+_, _-_, _*_, _/_, _%_, _^_, _≤_, _<_, zero-le, suc-le-suc, min, max}
-use native.Mathlib.Nat.{le-of-suc-le-suc, not-suc-le-zero, le-refl, le-trans, le-of-lt, zero-lt-suc, div-one, mod-lt, div-add-mod', pow-suc, div-eq-of-lt, lt-of-lt-of-le, lt-of-le-of-lt, min-le-left, zero-div, mul-div-cancel, mul-mod-left, eq-or-lt-of-le, mod-eq-of-lt, mul-assoc, sub-le, add-zero, one-mul, zero-mul, pos-of-ne-zero}
-use native.Mathlib.Numerals.{one-add, add-one}
+use native.Mathlib.Nat.{le-of-suc-le-suc, not-suc-le-zero, le-refl, zero-lt-suc, div-one, mod-lt, div-add-mod', pow-suc, div-eq-of-lt, lt-of-lt-of-le, lt-of-le-of-lt, min-le-left, mul-div-cancel, mul-mod-left, eq-or-lt-of-le, mod-eq-of-lt, mul-assoc, sub-le, add-zero, one-mul, zero-mul, pos-of-ne-zero}
+use native.Mathlib.Numerals.{one-add}
 use native.Mathlib.Omega.{arith}
 use borrow.Author.Tests.{eqb-true, eqb-false, eq-eqb, ne-eqb, not-true, not-false}
 use lib.Dec.{eqb, eqb·zero-suc, eqb·suc-zero, eqb·suc-suc}
 use lib.Arith.{lt-one, digits-div, digits-mod, digits-lt}
-use lib.Pow.{pow-pos, pow-mono, pow-lt, shr-shr, split}
-use lib.Bits.{bitAnd, bitOr, bitXor, and-step, or-step, xor-step, differ, and-le-l, and-le-r, and-shr, or-shr, xor-shr, and-lt, or-lt, xor-lt, or-disjoint, and-self, xor-self}
+use lib.Pow.{pow-pos, pow-mono, pow-lt, shr-shr}
+use lib.Bits.{bitAnd, bitOr, bitXor, and-step, or-step, xor-step, differ, and-le-l, and-le-r, and-lt, or-lt, xor-lt, or-disjoint, and-self, xor-self}
 use lib.Count.{trailingZeros, under, trailing-le, trailing-of-zero}
 use Rattle.laws.specs.Terms.{digit, odd, bit, setOf}
 

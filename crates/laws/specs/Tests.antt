@@ -1,8 +1,8 @@
 -- Tests as Bool equations (`a ≡ true`, `a ≡ false`): case work, facts out of `&&`, `||` and `not` and back, tests for some number
 -- below a bound, and the bridges to the tests of numbers. Rests on Terms.
-use mathlib.Core.Path.{_≡_, refl, sym, ap, _∙_}
+use mathlib.Core.Path.{_≡_, refl, sym, _∙_}
 use mathlib.Core.Bool.{Bool, true, false, not, true≢false, _||_, _&&_, or-assoc, or-comm, or-true, and-true, and-or-distrib-right}
-use Prim.Native.Nat.{ℕ, zero, suc, _+_, _≤_, _<_}
+use Prim.Native.Nat.{ℕ, zero, suc, _+_, _<_}
 use native.Mathlib.Omega.{arith}
 use borrow.Author.Tests.{ltb-true, ltb-false, eqb-true, lt-ltb, le-ltb, eq-eqb}
 use lib.Dec.{eqb, ltb}

@@ -3,7 +3,7 @@
 use mathlib.Core.Path.{_≡_, refl, sym, ap, subst, _∙_}
 use mathlib.Core.Logic.{_↔_, _⊎_, inl, inr}
 use mathlib.Core.Bool.{Bool, true, false, not, cond, _||_, _&&_}
-use mathlib.Core.List.{List, [], _∷_, _++_}
+use mathlib.Core.List.{List, [], _∷_}
 use Prim.Native.Nat.{ℕ, zero, suc, _+_, _≤_, _<_}
 use native.Mathlib.Omega.{arith}
 use borrow.Author.Tests.{eqb-true, eq-eqb}
@@ -11,10 +11,9 @@ use lib.Dec.{eqb, ltb}
 use Rattle.laws.specs.Terms.{Mem, each, anyOf, range, Sorted, next}
 use Rattle.laws.specs.Tests.{clash, and-out, and-in, or-out, or-in-left, or-in-right, not-out}
 use Rattle.laws.specs.Orders.{ltb-order, next-first, next-same}
-use Rattle.laws.specs.Lists.{mem-left, mem-right, mem-append, each-out, each-in, anyOf-out, anyOf-in, range-out, range-in, range-sorted, sorted-append, sorted-each}
+use Rattle.laws.specs.Lists.{mem-left, mem-right, mem-append, each-out, each-in, anyOf-out, anyOf-in, range-in, range-sorted, sorted-append, sorted-each}
 use Rattle.form.specs.declared.Body.{Body}
-use Rattle.form.specs.declared.Block.{Block}
-use Rattle.form.specs.Conflict.{Edge, block, exitsBy, exits, isTest, condition, touches, opposes, denies, contradict, Contradict, Onward, Clean, clean, leads, Pair, secondOf, assigned, crossed, assignmentPair, edgePair, pairsOf, conflicts, Assigned, Crossed, Holds, ascends}
+use Rattle.form.specs.Conflict.{Edge, block, exitsBy, exits, isTest, condition, touches, opposes, denies, contradict, Onward, Clean, clean, leads, Pair, secondOf, assigned, crossed, assignmentPair, edgePair, pairsOf, conflicts, Assigned, Crossed, Holds, ascends}
 use Rattle.form.specs.Conflict.Clean.{here, onward}
 use Rattle.relations.specs.Conditions.{contradict-says}
 

@@ -3,16 +3,16 @@
 -- there is none (`row-zero`). The full walk counts the conflict-free beginnings and finds the same route, or stops over the budget (`walk-routes`).
 -- Rests on Table, Walk, Forward, Backward and Passes.
 use mathlib.Core.Path.{_≡_, refl, sym, ap, ap₂, subst, _∙_}
-use mathlib.Core.Logic.{_⊎_, inl, inr}
-use mathlib.Core.Bool.{Bool, true, false, not, cond, _||_, _&&_, and-false}
+use mathlib.Core.Logic.{inl, inr}
+use mathlib.Core.Bool.{Bool, true, false, not, cond, _&&_, and-false}
 use mathlib.Core.List.{List, [], _∷_, _++_, map, map-map, append-nil}
-use mathlib.Core.Option.{Option, none, some}
-use Prim.Native.Nat.{ℕ, zero, suc, _<_}
+use mathlib.Core.Option.{none, some}
+use Prim.Native.Nat.{ℕ, suc, _<_}
 use native.Mathlib.Omega.{arith}
 use borrow.Author.Tests.{eqb-true, le-ltb}
 use lib.Dec.{eqb, ltb}
 use lib.ListN.{length, length-map}
-use Rattle.laws.specs.Terms.{Mem, only, each, anyOf}
+use Rattle.laws.specs.Terms.{Mem, only, each}
 use Rattle.laws.specs.Tests.{is-false, clash, and-out}
 use Rattle.laws.specs.Orders.{Order, Choice, pair-order, ltb-order}
 use Rattle.laws.specs.Lists.{only-out, only-same, only-swap, only-map, map-same, each-same, map-in, map-out, anyOf-out}
@@ -20,9 +20,9 @@ use Rattle.laws.specs.Rows.{put}
 use Rattle.form.specs.declared.Body.{Body}
 use Rattle.form.specs.Conflict.{Edge, Pair, Onward}
 use Rattle.relations.specs.ConflictList.{exits-ordered}
-use Rattle.theory.specs.Route.{Path, lastBlock, paths, beginnings, conflict, tails, routes, weighed, best, bestRoute, walked}
-use Rattle.theory.specs.Row.{Key, keyBefore, same, listed, bare, openEdges, addKey, keys, ofKey, found, rowOf, openTails, Entry, entryOf, row}
-use Rattle.theory.specs.Machine.{Val, better, Machine, Forward, Ordered, passed, passedFrom, built}
+use Rattle.theory.specs.Route.{Path, lastBlock, paths, conflict, tails, routes, weighed, best, bestRoute, walked}
+use Rattle.theory.specs.Row.{Key, keyBefore, same, listed, bare, openEdges, addKey, keys, ofKey, found, rowOf, openTails}
+use Rattle.theory.specs.Machine.{Val, better, Machine, Forward, passedFrom, built}
 use Rattle.theory.specs.Table.{built-row}
 use Rattle.theory.specs.Walk.{visits, whole, within, carry, carried, walk, tally, given, walk-answer}
 use Rattle.theory.specs.Edges.{noEdges, edges-none}

@@ -1,19 +1,19 @@
 -- Theorem 3 for the machine that reads tails from their end. Its state is the set of open edges; a step in front is dropped exactly where it conflicts with an open
 -- edge or with itself. It drops a tail exactly when the tail has a conflict, and otherwise comes to the open edges as Row defines them (`backward`).
 -- Rests on Steps, Edges and, of the conflict list, on what `Listing` asks.
-use mathlib.Core.Path.{_≡_, refl, sym, ap, ap₂, subst, _∙_}
-use mathlib.Core.Bool.{Bool, true, false, not, cond, _||_, _&&_, or-false, or-true, and-true, and-false, and-assoc, or-assoc}
+use mathlib.Core.Path.{_≡_, refl, sym, subst, _∙_}
+use mathlib.Core.Bool.{Bool, true, false, not, cond, _||_, _&&_, or-false, or-true, and-true, and-false}
 use mathlib.Core.List.{List, [], _∷_}
 use mathlib.Core.Option.{Option, none, some}
-use Prim.Native.Nat.{ℕ, zero, suc, _+_, _<_}
-use Rattle.laws.specs.Terms.{Mem, any, bit, setOf}
-use Rattle.laws.specs.Tests.{split, clash, both, and-out, and-in, or-out, or-in-left, or-in-right, is-false}
+use Prim.Native.Nat.{ℕ, _<_}
+use Rattle.laws.specs.Terms.{Mem}
+use Rattle.laws.specs.Tests.{both, and-out, and-in, or-out, or-in-left, or-in-right}
 use Rattle.form.specs.declared.Body.{Body}
-use Rattle.form.specs.Conflict.{Edge, Pair, exits, isTest, condition, touches, opposes, denies, Onward, Clean, conflicts}
+use Rattle.form.specs.Conflict.{Edge, Pair, exits, isTest, condition, opposes, denies, Onward, Clean}
 use Rattle.theory.specs.Route.{Path, conflict}
 use Rattle.theory.specs.Row.{Key, same, listed, bare, openEdges}
 use Rattle.theory.specs.Machine.{Machine}
-use Rattle.theory.specs.Steps.{Way, Real, Leads, wipes, against, denies-test, same-refl, same-eq, real-inside, real-way, first-real, hit, hit-nil, hit-of, hit-out, conflict-nil, conflict-cons, bare-nil, bare-cons, bare-real, bare-clean}
+use Rattle.theory.specs.Steps.{Way, Real, Leads, wipes, against, denies-test, same-refl, same-eq, real-inside, real-way, hit, hit-of, hit-out, conflict-nil, conflict-cons, bare-nil, bare-cons, bare-real, bare-clean}
 use Rattle.theory.specs.Edges.{has, edgesOf, anyEdge, noEdges, has-edgesOf, any-edge-in, any-edge-out, edges-same, edges-none}
 
 -- ---- the machine

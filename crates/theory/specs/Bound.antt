@@ -1,26 +1,25 @@
 -- Theorem 5: the route of every iteration has no conflict (`iteration-free`), so it is one of the routes, and a run of no more iterations than the count costs at most the
 -- count times the heaviest weight (`run-bound`). Rests on Run, Steps, Passes and relations.
 use mathlib.Core.Path.{_≡_, refl, sym, ap, subst, _∙_}
-use mathlib.Core.Logic.{_⊎_, inl, inr}
+use mathlib.Core.Logic.{inl, inr}
 use mathlib.Core.Bool.{Bool, true, false, not, cond, _||_, _&&_}
-use mathlib.Core.List.{List, [], _∷_, _++_, map}
+use mathlib.Core.List.{List, [], _∷_, map}
 use mathlib.Core.Option.{Option, none, some}
-use Prim.Native.Nat.{ℕ, zero, suc, _+_, _-_, _*_, _≤_, _<_}
+use Prim.Native.Nat.{ℕ, zero, suc, _+_, _*_, _≤_, _<_}
 use native.Mathlib.Nat.{suc-mul, le-trans, mul-le-mul-right}
 use native.Mathlib.Omega.{arith}
-use borrow.Author.Tests.{eqb-true, eqb-false, eq-eqb, ltb-true, ltb-false}
-use lib.Dec.{eqb, ltb}
+use borrow.Author.Tests.{eqb-true, eqb-false, ltb-false}
+use lib.Dec.{eqb}
 use lib.IntN.{ℤ}
 use lib.ListN.{length}
-use Rattle.laws.specs.Terms.{Mem, only, each, anyOf, heavier}
-use Rattle.laws.specs.Tests.{split, clash, and-out, and-in, or-out, or-no, is-false, not-out, or-none}
+use Rattle.laws.specs.Terms.{Mem, each, anyOf, heavier}
+use Rattle.laws.specs.Tests.{clash, and-out, or-out, or-no, is-false, not-out, or-none}
 use Rattle.laws.specs.Orders.{Choice, asym, ntrans, heaviest}
 use Rattle.laws.specs.Lists.{mem-left, mem-right, each-in, map-in, only-in}
 use Rattle.form.specs.declared.Body.{Body}
-use Rattle.form.specs.declared.Block.{Block}
 use Rattle.form.specs.declared.Effect.{Effect}
 use Rattle.form.specs.Relation.{meets, opposite}
-use Rattle.form.specs.Conflict.{Edge, Condition, block, effectsOf, exits, isTest, condition, met, contradict, opposes, denies, touches, later, lastOn, refuses, Onward}
+use Rattle.form.specs.Conflict.{Edge, Condition, block, effectsOf, exits, isTest, condition, met, opposes, denies, touches, later, lastOn, refuses, Onward}
 use Rattle.relations.specs.Relations.{opposite-is}
 use Rattle.relations.specs.Conditions.{contradict-says}
 use Rattle.theory.specs.Route.{Path, lastBlock, paths, conflict, tails, routes, weight, weighed, choose, best, bestRoute}
@@ -28,7 +27,7 @@ use Rattle.theory.specs.Run.{State, Does, Do, holdsAt, Leaves, Iteration
 use Rattle.theory.specs.Run.Do.{done, does}
 use Rattle.theory.specs.Run.Iteration.{ends, goes}
 use Rattle.theory.specs.Run.Run.{rests, repeats}
-use Rattle.theory.specs.Steps.{Leads, wipes, against, denies-test, opposes-out, hit, hit-nil, hit-cons, conflict-nil, conflict-cons}
+use Rattle.theory.specs.Steps.{wipes, against, denies-test, opposes-out, hit, hit-nil, hit-cons, conflict-nil, conflict-cons}
 
 -- ---- effects
 

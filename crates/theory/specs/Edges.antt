@@ -1,12 +1,12 @@
 -- Sets of edges as two numbers, the edges left by jump and those left by fall (bit k for block k): membership, the sets of a test, tests for some edge.
 -- Rests on the laws' Sets and on Row's keys.
-use mathlib.Core.Path.{_≡_, refl, sym, ap, ap₂, _∙_}
-use mathlib.Core.Logic.{_⊎_, inl, inr}
-use mathlib.Core.Bool.{Bool, true, false, not, cond, _||_, _&&_}
-use Prim.Native.Nat.{ℕ, zero, suc, _<_}
+use mathlib.Core.Path.{_≡_, refl}
+use mathlib.Core.Logic.{inl, inr}
+use mathlib.Core.Bool.{Bool, true, false, cond, _||_}
+use Prim.Native.Nat.{ℕ, _<_}
 use lib.Dec.{eqb}
 use Rattle.laws.specs.Terms.{any, bit, setOf}
-use Rattle.laws.specs.Tests.{any-in, any-out, any-same, or-out, or-in-left, or-in-right}
+use Rattle.laws.specs.Tests.{any-in, any-out, or-out, or-in-left, or-in-right}
 use Rattle.laws.specs.Sets.{bit-setOf, bit-none, setOf-ext, setOf-zero}
 use Rattle.form.specs.Conflict.{Edge}
 use Rattle.theory.specs.Row.{Key}

@@ -2,7 +2,7 @@
 -- Rests on Route, Row and form's Conflict.
 use mathlib.Core.Path.{_≡_, refl, ap, _∙_}
 use mathlib.Core.List.{List, [], _∷_, map}
-use mathlib.Core.Option.{Option, none, some}
+use mathlib.Core.Option.{none, some}
 use Prim.Native.Nat.{ℕ}
 use lib.IntN.{ℤ, pos}
 use Rattle.laws.specs.Terms.{heavier, range, setOf}
@@ -10,7 +10,7 @@ use Rattle.form.specs.declared.Body.{Body}
 use Rattle.form.specs.declared.Block.{Block}
 use Rattle.form.specs.declared.Effect.{Effect}
 use Rattle.form.specs.Conflict.{Pair, block, effectsBelow, effectsOf, touches, lastOn, exits, isTest, condition, contradict, opposes, denies, clean, assigned, crossed, pairsOf, conflicts, conflictBytes}
-use Rattle.theory.specs.Route.{Path, stepCost, paths, conflict, tails, routes, weight, best, bestRoute, wayOf, routeBytes, beginnings, walked}
+use Rattle.theory.specs.Route.{stepCost, paths, conflict, tails, routes, weight, best, bestRoute, wayOf, routeBytes, beginnings, walked}
 use Rattle.theory.specs.Row.{Entry, listed, bare, openEdges, addKey, keys, rowOf, openTails, leftBy, row, longest, kept, highest, crowded}
 
 -- cost, jump

@@ -1,22 +1,22 @@
 -- The conflict list is what the sweep's machine needs: it lists every edge that a first below contradicts along a clean path, and only edges of tests.
 -- Rests on relations' ConflictList and Backward.
 use mathlib.Core.Path.{_≡_, refl, subst}
-use mathlib.Core.Logic.{_⊎_, inl, inr}
-use mathlib.Core.Bool.{Bool, true, false, _||_, _&&_}
+use mathlib.Core.Logic.{inl, inr}
+use mathlib.Core.Bool.{Bool, true, _&&_}
 use mathlib.Core.List.{List}
 use Prim.Native.Nat.{ℕ, _<_}
 use native.Mathlib.Omega.{arith}
 use borrow.Author.Tests.{ltb-true, lt-ltb}
-use lib.Dec.{eqb, ltb}
-use Rattle.laws.specs.Terms.{Mem, anyOf}
+use lib.Dec.{ltb}
+use Rattle.laws.specs.Terms.{Mem}
 use Rattle.laws.specs.Tests.{and-out, and-in, or-out}
 use Rattle.laws.specs.Lists.{anyOf-out, anyOf-in}
 use Rattle.form.specs.declared.Body.{Body}
-use Rattle.form.specs.Conflict.{Edge, Pair, exits, isTest, condition, contradict, opposes, denies, Onward, Clean, secondOf, assignmentPair, edgePair, conflicts, Holds}
+use Rattle.form.specs.Conflict.{Edge, Pair, isTest, condition, opposes, Onward, secondOf, assignmentPair, edgePair, conflicts, Holds}
 use Rattle.relations.specs.Conditions.{contradict-says}
 use Rattle.relations.specs.ConflictList.{conflicts-hold}
 use Rattle.theory.specs.Row.{same, listed}
-use Rattle.theory.specs.Steps.{Real, against, denies-test, opposes-out, same-refl, same-eq}
+use Rattle.theory.specs.Steps.{denies-test, opposes-out, same-refl, same-eq}
 use Rattle.theory.specs.Backward.{Listing}
 
 module _ (body : Body) where

@@ -1,8 +1,8 @@
 -- A machine that reads paths from their end: it has a key for the empty path, and a step in front makes a new key or drops the path. For any machine and any
 -- costs: the paths that it passes, with key and weight, in order; and the rows built from the last block down by insertion. Rests on Route and the laws.
-use mathlib.Core.Path.{_≡_, refl, sym, ap, _∙_, subst}
+use mathlib.Core.Path.{_≡_, refl, ap, _∙_}
 use mathlib.Core.Logic.{_⊎_, inl, inr}
-use mathlib.Core.Bool.{Bool, true, false, not, cond}
+use mathlib.Core.Bool.{Bool, true, false, cond}
 use mathlib.Core.List.{List, [], _∷_, _++_}
 use mathlib.Core.Option.{Option, none, some}
 use Prim.Native.Nat.{ℕ, zero, suc, _+_, _-_, _≤_, _<_}

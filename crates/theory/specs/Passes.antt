@@ -2,21 +2,20 @@
 -- does not drop, in the same order. For any machine on a body's graph. Rests on Walk, Machine and Route.
 use mathlib.Core.Path.{_≡_, refl, sym, ap, ap₂, subst, _∙_}
 use mathlib.Core.Logic.{_⊎_, inl, inr}
-use mathlib.Core.Bool.{Bool, true, false, not, cond}
-use mathlib.Core.List.{List, [], _∷_, _++_, map, map-append, map-map, append-nil}
+use mathlib.Core.Bool.{Bool, true, false, cond}
+use mathlib.Core.List.{List, [], _∷_, _++_, map, map-append, map-map}
 use mathlib.Core.Option.{Option, none, some}
-use Prim.Native.Nat.{ℕ, zero, suc, _+_, _-_}
+use Prim.Native.Nat.{ℕ, zero, suc, _+_}
 use native.Mathlib.Omega.{arith}
 use borrow.Author.Tests.{eqb-true}
 use lib.Dec.{eqb}
-use lib.ListN.{length}
 use Rattle.laws.specs.Terms.{Mem, only, each}
-use Rattle.laws.specs.Lists.{only-none, only-same, only-swap, only-map, only-append, each-same, each-append, mem-append, each-out, map-out}
+use Rattle.laws.specs.Lists.{only-none, only-map, only-append, each-append, mem-append, each-out, map-out}
 use Rattle.laws.specs.Rows.{put, ext}
 use Rattle.form.specs.declared.Body.{Body}
 use Rattle.form.specs.Conflict.{Edge, exits}
 use Rattle.theory.specs.Route.{Path, lastBlock, paths, beginnings, weight, weighed}
-use Rattle.theory.specs.Machine.{Val, grow, Machine, base, spread, passed}
+use Rattle.theory.specs.Machine.{Val, grow, Machine, spread, passed}
 use Rattle.theory.specs.Walk.{arrive, extend, ifAllowed, visitBy, visits, whole}
 use Rattle.theory.specs.Steps.{Leads}
 use Rattle.theory.specs.Forward.{goesOn, allowed}

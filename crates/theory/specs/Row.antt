@@ -2,10 +2,10 @@
 use mathlib.Core.Bool.{Bool, not, cond, true, false, _||_, _&&_}
 use mathlib.Core.List.{List, [], _∷_, _++_, map}
 use mathlib.Core.Option.{Option, none, some}
-use Prim.Native.Nat.{ℕ, zero, suc, _+_, max}
+use Prim.Native.Nat.{ℕ, zero, suc, max}
 use lib.Dec.{eqb, ltb}
 use lib.ListN.{length, take, replicate}
-use Rattle.laws.specs.Terms.{any, anyOf, each, only, range, pairb, setOf}
+use Rattle.laws.specs.Terms.{any, anyOf, each, only, pairb, setOf}
 use Rattle.form.specs.declared.Body.{Body}
 use Rattle.form.specs.Conflict.{Edge, Pair, condition, touches, conflicts}
 use Rattle.theory.specs.Route.{Path, at, tails, weighed, best}

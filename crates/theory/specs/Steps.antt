@@ -2,20 +2,19 @@
 -- Rests on Route, Row and form's Conflict, whose tests it hardly looks into.
 use mathlib.Core.Path.{_≡_, refl, sym, ap, ap₂, subst, _∙_}
 use mathlib.Core.Logic.{_⊎_, inl, inr}
-use mathlib.Core.Bool.{Bool, true, false, not, _||_, _&&_, or-assoc, or-false, and-true, and-or-distrib-right}
-use mathlib.Core.List.{List, [], _∷_}
-use Prim.Native.Nat.{ℕ, zero, suc, _≤_, _<_}
+use mathlib.Core.Bool.{Bool, true, false, not, _||_, _&&_, or-false, and-true, and-or-distrib-right}
+use mathlib.Core.List.{[], _∷_}
+use Prim.Native.Nat.{ℕ, zero, suc, _<_}
 use native.Mathlib.Omega.{arith}
 use borrow.Author.Tests.{eqb-true}
 use lib.Dec.{eqb}
 use lib.ListN.{length}
-use Rattle.laws.specs.Terms.{Mem, any, before}
-use Rattle.laws.specs.Tests.{both, four, nor, nor-swap, and-out, and-in, or-out, or-no, or-none, not-out, any-in, any-out, any-and, any-or, any-same, eqb-same}
+use Rattle.laws.specs.Terms.{Mem, any}
+use Rattle.laws.specs.Tests.{four, nor, nor-swap, and-out, and-in, or-no, not-out, any-in, any-out, any-and, any-or, any-same, eqb-same}
 use Rattle.form.specs.declared.Body.{Body}
-use Rattle.form.specs.declared.Block.{Block}
 use Rattle.form.specs.Conflict.{Edge, block, exitsBy, exits, isTest, condition, contradict, touches, opposes, denies, Onward, Clean}
 use Rattle.form.specs.Conflict.Clean.{here, onward}
-use Rattle.theory.specs.Route.{Path, at, overwritten, conflict}
+use Rattle.theory.specs.Route.{Path, at, conflict}
 use Rattle.theory.specs.Row.{same, bare}
 
 -- ---- edges

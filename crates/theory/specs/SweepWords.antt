@@ -1,26 +1,26 @@
 -- The sweep on words. An entry keeps of its tail the open edges, the weight and the sets of blocks left by jump or go and by fall. The row of entries built from the
 -- rows of entries above is the row by definition (`sweep-words`, `row-words`), row 0 is the answer (`row-zero-words`); inserting takes no entry away, so a row
 -- that has grown past 64 stays so (`fill-grows`). Rests on Answer and Ties.
-use mathlib.Core.Path.{_≡_, refl, sym, ap, ap₂, subst, _∙_}
-use mathlib.Core.Logic.{_⊎_, inl, inr}
+use mathlib.Core.Path.{_≡_, refl, sym, ap, subst, _∙_}
+use mathlib.Core.Logic.{inl, inr}
 use mathlib.Core.Bool.{Bool, true, false, not, cond}
-use mathlib.Core.List.{List, [], _∷_, _++_, map, map-map}
+use mathlib.Core.List.{List, [], _∷_, map, map-map}
 use mathlib.Core.Option.{Option, none, some}
-use Prim.Native.Nat.{ℕ, zero, suc, _+_, _≤_, _<_}
+use Prim.Native.Nat.{ℕ, suc, _+_, _≤_, _<_}
 use native.Mathlib.Nat.{le-refl, le-trans}
 use native.Mathlib.Omega.{arith}
 use borrow.Author.Tests.{eqb-true}
 use lib.Dec.{eqb}
 use lib.ListN.{length}
 use Rattle.laws.specs.Terms.{Mem, Sorted, next}
-use Rattle.laws.specs.Orders.{Order, Choice}
+use Rattle.laws.specs.Orders.{Choice}
 use Rattle.laws.specs.Lists.{map-out, only-out}
-use Rattle.laws.specs.Rows.{insert, covers-insert, across, insert-across, insert-grows}
+use Rattle.laws.specs.Rows.{insert, covers-insert, insert-across, insert-grows}
 use Rattle.form.specs.declared.Body.{Body}
 use Rattle.form.specs.Conflict.{Edge, Pair, exits, Onward}
 use Rattle.theory.specs.Route.{Path, lastBlock, paths, conflict, tails, weighed, bestRoute}
-use Rattle.theory.specs.Row.{Key, keyBefore, openEdges, found, rowOf, openTails, leftBy, Entry, entryOf, row}
-use Rattle.theory.specs.Machine.{Val, grow, better, base, push, pour, fill, built, passed, passedFrom, passed-sorted, ahead}
+use Rattle.theory.specs.Row.{Key, keyBefore, openEdges, found, rowOf, openTails, leftBy, Entry, row}
+use Rattle.theory.specs.Machine.{Val, grow, better, base, push, pour, fill, passed-sorted, ahead}
 use Rattle.theory.specs.RowLaws.{better-order, row-is}
 use Rattle.theory.specs.Steps.{Leads}
 use Rattle.theory.specs.Edges.{noEdges}

@@ -2,27 +2,26 @@
 -- So a path need be known only by its sets. And a set with one more step in front has one more bit (`left-cons`). Rests on Steps and the laws' Sets.
 use mathlib.Core.Path.{_≡_, refl, sym, ap, ap₂, subst, _∙_}
 use mathlib.Core.Logic.{_⊎_, inl, inr}
-use mathlib.Core.Bool.{Bool, true, false, not, cond, _||_, _&&_, or-false, or-comm, and-true, and-false}
-use mathlib.Core.List.{List, [], _∷_}
-use Prim.Native.Nat.{ℕ, zero, suc, _+_, _-_, _^_, _≤_, _<_}
+use mathlib.Core.Bool.{Bool, true, false, cond, _||_, _&&_, or-comm, and-true, and-false}
+use mathlib.Core.List.{[], _∷_}
+use Prim.Native.Nat.{ℕ, zero, suc, _^_, _≤_, _<_}
 use native.Mathlib.Nat.{lt-of-lt-of-le}
 use native.Mathlib.Omega.{arith}
-use borrow.Author.Tests.{eqb-true, eqb-false, eq-eqb, ne-eqb}
+use borrow.Author.Tests.{eqb-true, eq-eqb}
 use lib.Dec.{eqb, ltb}
 use lib.Bits.{bitOr, bitXor, or-lt}
 use lib.Count.{trailingZeros}
 use lib.Pow.{pow-lt, pow-mono}
-use Rattle.laws.specs.Terms.{Mem, anyOf, next, bit, setOf}
-use Rattle.laws.specs.Tests.{split, clash, both, and-out, and-in, or-out, or-in-left, or-in-right, or-none, is-false, eqb-same, eqb-swap}
-use Rattle.laws.specs.Orders.{Order, asym, next-same}
-use Rattle.laws.specs.Sets.{ext, setOf-lt, bit-setOf, bit-beyond, bit-with, lowest-bit, no-lowest, below-or-not}
+use Rattle.laws.specs.Terms.{Mem, anyOf, next, bit}
+use Rattle.laws.specs.Tests.{split, clash, and-in, or-out, or-in-left, or-in-right, or-none, is-false, eqb-swap}
+use Rattle.laws.specs.Orders.{next-same}
+use Rattle.laws.specs.Sets.{ext, setOf-lt, bit-setOf, bit-with, lowest-bit, no-lowest}
 use Rattle.form.specs.declared.Body.{Body}
-use Rattle.form.specs.declared.Block.{Block}
 use Rattle.form.specs.Conflict.{Edge, block, exitsBy, exits, Onward}
 use Rattle.theory.specs.Route.{Path, lastBlock, wayOf}
 use Rattle.theory.specs.Row.{same, leftBy}
 use Rattle.theory.specs.Machine.{edgeBefore, edge-order, first, first-order}
-use Rattle.theory.specs.Steps.{Way, way-of, Leads, same-refl, same-eq}
+use Rattle.theory.specs.Steps.{Way, way-of, Leads, same-eq}
 
 -- the path leaves block k by the way
 abbrev pub leaves : ℕ → Path → ℕ → Bool

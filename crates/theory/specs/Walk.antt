@@ -13,8 +13,7 @@ use lib.Dec.{eqb, ltb}
 use lib.ListN.{length, length-map}
 use Rattle.laws.specs.Terms.{only}
 use Rattle.laws.specs.Lists.{only-map}
-use Rattle.laws.specs.Tests.{split, clash}
-use Rattle.laws.specs.Orders.{Order, Choice, asym, ntrans}
+use Rattle.laws.specs.Orders.{Choice, ntrans}
 use Rattle.form.specs.Conflict.{Edge}
 use Rattle.theory.specs.Route.{Path, choose, best}
 use Rattle.theory.specs.Machine.{Val, grow, Machine}

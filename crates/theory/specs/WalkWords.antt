@@ -1,21 +1,21 @@
 -- The full walk on words, and the route bytes from the words of a path. The walk that carries weight and sets forward counts the conflict-free beginnings and keeps the
 -- words of the first route of the preferred weight (`walk-words`); a route's bytes follow from its two sets (`bytes-words`). Rests on Answer, Ties and SweepWords.
-use mathlib.Core.Path.{_≡_, refl, sym, ap, ap₂, subst, _∙_}
-use mathlib.Core.Bool.{Bool, true, false, not, cond, _||_, or-assoc, or-false, or-comm}
+use mathlib.Core.Path.{_≡_, refl, sym, ap, ap₂, _∙_}
+use mathlib.Core.Bool.{Bool, true, false, not, cond, _||_, or-false}
 use mathlib.Core.List.{List, [], _∷_, map, map-map}
 use mathlib.Core.Option.{Option, none, some}
-use Prim.Native.Nat.{ℕ, zero, suc, _+_, _^_, _<_}
+use Prim.Native.Nat.{ℕ, suc, _+_, _^_, _<_}
 use native.Mathlib.Nat.{add-assoc, zero-add}
 use native.Mathlib.Omega.{arith}
 use lib.Bits.{bitOr, or-lt}
 use lib.Dec.{eqb}
 use lib.Pow.{pow-pos}
-use Rattle.laws.specs.Terms.{Mem, only, range, bit}
+use Rattle.laws.specs.Terms.{range, bit}
 use Rattle.laws.specs.Orders.{Choice}
 use Rattle.laws.specs.Lists.{only-out, map-same, range-out}
 use Rattle.laws.specs.Sets.{ext, bit-or, bit-none}
 use Rattle.form.specs.declared.Body.{Body}
-use Rattle.form.specs.Conflict.{Edge, exits, Onward}
+use Rattle.form.specs.Conflict.{Edge, Onward}
 use Rattle.theory.specs.Route.{Path, lastBlock, paths, conflict, tails, routes, weight, weighed, choose, best, bestRoute, wayOf, routeBytes, walked}
 use Rattle.theory.specs.Row.{same, leftBy}
 use Rattle.theory.specs.Machine.{Val}
@@ -24,7 +24,7 @@ use Rattle.theory.specs.Steps.{Leads}
 use Rattle.theory.specs.Edges.{noEdges}
 use Rattle.theory.specs.Forward.{onMachine}
 use Rattle.theory.specs.Passes.{paths-lead}
-use Rattle.theory.specs.Ties.{mark, mark-bit, mark-lt, leaves, left-bit, left-lt, left-cons, left-nil, way-words}
+use Rattle.theory.specs.Ties.{mark, mark-bit, mark-lt, leaves, left-bit, left-lt, left-nil, way-words}
 use Rattle.theory.specs.Answer.{walk-routes}
 use Rattle.theory.specs.SweepWords.{Words, wordsOf, wordsFound}
 
