@@ -40,10 +40,6 @@ module _ {K B : Type 0} (lt : K → K → Bool) (bt : B → B → Bool) where
   insert e [] = e ∷ []
   insert e (x ∷ r) = place (lt (e .0) (x .0)) (lt (x .0) (e .0)) e x r (insert e r)
 
-  unfoldable pub inserts : List (K × B) → List (K × B)
-  inserts [] = []
-  inserts (e ∷ l) = insert e (inserts l)
-
   abbrev pub Asc : List (K × B) → Type 0
   Asc [] = Unit {0}
   Asc (x ∷ r) = ((y : K × B) → Mem y r → lt (x .0) (y .0) ≡ true) × Asc r
@@ -105,11 +101,6 @@ module _ {K B : Type 0} (lt : K → K → Bool) (bt : B → B → Bool) where
     covers-insert e [] = covers-refl (e ∷ [])
     covers-insert e (x ∷ r) = covers-place _ _ e x r (insert e r) refl refl (covers-insert e r)
 
-    pub covers-inserts : (l : List (K × B)) → Covers bt l (inserts l)
-    unfolding inserts
-    covers-inserts [] = covers-refl []
-    covers-inserts (e ∷ l) = covers-trans _ _ _ (covers-cons e l (inserts l) (covers-inserts l)) (covers-insert e (inserts l))
-
     -- the insertion keeps a row ascending
     asc-place : (a b : Bool) (e x : K × B) (r i : List (K × B)) → lt (e .0) (x .0) ≡ a → lt (x .0) (e .0) ≡ b → Covers bt (e ∷ r) i
         → Asc (x ∷ r) → Asc i → Asc (place a b e x r i)
@@ -133,11 +124,6 @@ module _ {K B : Type 0} (lt : K → K → Bool) (bt : B → B → Bool) where
     unfolding insert
     asc-insert e [] h = (λ y m. absurd m, tt)
     asc-insert e (x ∷ r) h = asc-place _ _ e x r (insert e r) refl refl (covers-insert e r) h (asc-insert e r (h .1))
-
-    pub asc-inserts : (l : List (K × B)) → Asc (inserts l)
-    unfolding inserts
-    asc-inserts [] = tt
-    asc-inserts (e ∷ l) = asc-insert e (inserts l) (asc-inserts l)
 
     -- an ascending list has one entry of a key, and is known by its entries
     pub asc-one : (r : List (K × B)) (x y : K × B) → Asc r → Mem x r → Mem y r → x .0 ≡ y .0 → x ≡ y

@@ -58,16 +58,6 @@ pub not-out : (a : Bool) → not a ≡ true → a ≡ false
 not-out true h = clash h refl
 not-out false h = refl
 
-pub not-same : (a b : Bool) → not a ≡ not b → a ≡ b
-not-same true true h = refl
-not-same true false h = clash refl (sym h)
-not-same false true h = clash refl h
-not-same false false h = refl
-
-pub nots : (a b : Bool) → (not a && not b) ≡ not (a || b)
-nots true b = refl
-nots false b = refl
-
 pub or-left-comm : (a b c : Bool) → (a || (b || c)) ≡ (b || (a || c))
 or-left-comm true true c = refl
 or-left-comm true false c = refl

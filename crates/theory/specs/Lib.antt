@@ -18,3 +18,4 @@ pub mod Bound
 pub mod Ties
 pub mod SweepWords
 pub mod WalkWords
+pub mod Readings
