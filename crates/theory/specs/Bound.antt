@@ -5,21 +5,21 @@ use mathlib.Core.Logic.{inl, inr}
 use mathlib.Core.Bool.{Bool, true, false, not, cond, _||_, _&&_}
 use mathlib.Core.List.{List, [], _∷_, map}
 use mathlib.Core.Option.{Option, none, some}
-use Prim.Native.Nat.{ℕ, zero, suc, _+_, _*_, _≤_, _<_}
+use Prim.Native.Nat.{ℕ, suc, _+_, _*_, _≤_, _<_}
 use native.Mathlib.Nat.{suc-mul, le-trans, mul-le-mul-right}
 use native.Mathlib.Omega.{arith}
 use borrow.Author.Tests.{eqb-true, eqb-false, ltb-false}
 use lib.Dec.{eqb}
 use lib.IntN.{ℤ}
 use lib.ListN.{length}
-use Rattle.laws.specs.Terms.{Mem, each, anyOf, heavier}
+use Rattle.laws.specs.Terms.{Mem, anyOf, heavier}
 use Rattle.laws.specs.Tests.{clash, and-out, or-out, or-no, is-false, not-out, or-none}
 use Rattle.laws.specs.Orders.{Choice, asym, ntrans, heaviest}
-use Rattle.laws.specs.Lists.{mem-left, mem-right, each-in, map-in, only-in}
+use Rattle.laws.specs.Lists.{map-in, only-in}
 use Rattle.form.specs.declared.Body.{Body}
 use Rattle.form.specs.declared.Effect.{Effect}
 use Rattle.form.specs.Relation.{meets, opposite}
-use Rattle.form.specs.Conflict.{Edge, Condition, block, effectsOf, exits, isTest, condition, met, opposes, denies, touches, later, lastOn, refuses, Onward}
+use Rattle.form.specs.Conflict.{Edge, Condition, block, effectsOf, isTest, condition, met, opposes, denies, touches, later, lastOn, refuses, Onward}
 use Rattle.relations.specs.Relations.{opposite-is}
 use Rattle.relations.specs.Conditions.{contradict-says}
 use Rattle.theory.specs.Route.{Path, lastBlock, paths, conflict, tails, routes, weight, weighed, choose, best, bestRoute}
@@ -27,7 +27,8 @@ use Rattle.theory.specs.Run.{State, Does, Do, holdsAt, Leaves, Iteration
 use Rattle.theory.specs.Run.Do.{done, does}
 use Rattle.theory.specs.Run.Iteration.{ends, goes}
 use Rattle.theory.specs.Run.Run.{rests, repeats}
-use Rattle.theory.specs.Steps.{wipes, against, denies-test, opposes-out, hit, hit-nil, hit-cons, conflict-nil, conflict-cons}
+use Rattle.theory.specs.Passes.{leads-path}
+use Rattle.theory.specs.Steps.{Leads, wipes, against, denies-test, opposes-out, hit, hit-nil, hit-cons, conflict-nil, conflict-cons}
 
 -- ---- effects
 
@@ -152,22 +153,13 @@ module _ (body : Body) (w : Onward body) where
   inside (ends e d) = omega arith
   inside (goes {b = b} o d l r) = omega (arith, w .above b o (l .exit), w .inside b o (l .exit))
 
-  last-one : (c : Bool) (b : ℕ) → suc b ≡ body .count → eqb (suc b) (body .count) ≡ c → Mem {A = Path} [] (cond c ([] ∷ []) [])
-  last-one true b e h = inl refl
-  last-one false b e h = absurd (eqb-false (suc b) (body .count) h e)
-
-  iteration-path : (n : ℕ) {b : ℕ} {s t : State} {p : Path} → Iteration body b s p t → body .count ≤ n + b → Mem p (paths body n b)
-  unfolding paths
-  iteration-path zero i h = let z : ⊥ = omega (arith, inside i) in absurd z
-  iteration-path (suc n) (ends {b = b} e d) h = mem-left [] (cond (eqb (suc b) (body .count)) ([] ∷ []) []) _ (last-one _ b e refl)
-  iteration-path (suc n) (goes {b = b} {p = p} o d l r) h =
-      mem-right ((b, o .0) ∷ p) (cond (eqb (suc b) (body .count)) ([] ∷ []) []) (each (exits body b) (λ o. map (λ p. (b, o .0) ∷ p) (paths body n (o .1))))
-      (each-in (exits body b) (λ o. map (λ p. (b, o .0) ∷ p) (paths body n (o .1))) o ((b, o .0) ∷ p) (l .exit)
-      (map-in (λ (p : Path). (b, o .0) ∷ p) (paths body n (o .1)) p (iteration-path n r (omega (arith, w .above b o (l .exit))))))
+  iteration-leads : {b : ℕ} {s t : State} {p : Path} → Iteration body b s p t → Leads body b p (lastBlock body)
+  iteration-leads (ends e d) = omega arith
+  iteration-leads (goes o d l r) = (o .1, refl, l .exit, iteration-leads r)
 
   pub iteration-route : Known body → {s t : State} {p : Path} → Iteration body 0 s p t → Mem p (routes body)
   unfolding tails
-  iteration-route k {p = p} i = only-in (λ p. not (conflict body p)) (paths body (body .count) 0) p (ap not (iteration-free body k i)) (iteration-path (body .count) i (omega arith))
+  iteration-route k {p = p} i = only-in (λ p. not (conflict body p)) (paths body (body .count) 0) p (ap not (iteration-free body k i)) (leads-path body w (body .count) 0 p (inside i) (omega arith) (iteration-leads i))
 
 -- ---- the best of a list
 

@@ -5,15 +5,15 @@ use mathlib.Core.Logic.{_⊎_, inl, inr}
 use mathlib.Core.Bool.{Bool, true, false, cond}
 use mathlib.Core.List.{List, [], _∷_, _++_, map, map-append, map-map}
 use mathlib.Core.Option.{Option, none, some}
-use Prim.Native.Nat.{ℕ, zero, suc, _+_}
+use Prim.Native.Nat.{ℕ, zero, suc, _+_, _≤_, _<_}
 use native.Mathlib.Omega.{arith}
-use borrow.Author.Tests.{eqb-true}
+use borrow.Author.Tests.{eqb-true, eq-eqb}
 use lib.Dec.{eqb}
 use Rattle.laws.specs.Terms.{Mem, only, each}
-use Rattle.laws.specs.Lists.{only-none, only-map, only-append, each-append, mem-append, each-out, map-out}
+use Rattle.laws.specs.Lists.{only-none, only-map, only-append, each-append, mem-append, each-out, map-out, mem-left, mem-right, each-in, map-in}
 use Rattle.laws.specs.Rows.{put, ext}
 use Rattle.form.specs.declared.Body.{Body}
-use Rattle.form.specs.Conflict.{Edge, exits}
+use Rattle.form.specs.Conflict.{Edge, exits, Onward}
 use Rattle.theory.specs.Route.{Path, lastBlock, paths, beginnings, weight, weighed}
 use Rattle.theory.specs.Machine.{Val, grow, Machine, spread, passed}
 use Rattle.theory.specs.Walk.{arrive, extend, ifAllowed, visitBy, visits, whole}
@@ -163,7 +163,7 @@ module _ (body : Body) (cost : ℕ → ℕ → ℕ) where
         ap₂ _++_ (base-keyed _ b refl) (spread-keyed (λ t. passed M n t) (paths body n) (passed-are n) b (exits body b))
         ∙ sym (each-append (cond (eqb (suc b) (body .count)) ([] ∷ []) []) (each (exits body b) (λ o. map (λ p. (b, o .0) ∷ p) (paths body n (o .1)))) keyed)
 
--- ---- the listed paths are walks in the graph
+-- ---- the listed paths are the walks in the graph
 
 module _ (body : Body) where
   one-more : (b t : ℕ) (o : ℕ × ℕ) (q p : Path) → Mem o (exits body b) → p ≡ (b, o .0) ∷ q → Leads body (o .1) q t → Leads body b p t
@@ -195,3 +195,19 @@ module _ (body : Body) where
           → Mem p (cond (eqb (suc b) (body .count)) ([] ∷ []) []) ⊎ Mem p (each (exits body b) (λ o. map (λ p. (b, o .0) ∷ p) (paths body n (o .1)))) → Leads body b p (lastBlock body)
       go h (inl m) = ends _ b p refl m
       go h (inr m) = step h m
+
+module _ (body : Body) (w : Onward body) where
+  abbrev onward : ℕ → ℕ → List Path
+  onward n b = each (exits body b) (λ o. map (λ p. (b, o .0) ∷ p) (paths body n (o .1)))
+
+  -- a walk to the last block is a path
+  pub leads-path : (n b : ℕ) (p : Path) → b < body .count → body .count ≤ n + b → Leads body b p (lastBlock body) → Mem p (paths body n b)
+  unfolding paths
+  leads-path zero b p h k l = let z : ⊥ = omega arith in absurd z
+  leads-path (suc n) b [] h k l = mem-left [] (cond (eqb (suc b) (body .count)) ([] ∷ []) []) (onward n b) (subst (λ (c : Bool). Mem {A = Path} [] (cond c ([] ∷ []) [])) (sym (eq-eqb (suc b) (body .count) (omega arith))) (inl refl))
+  leads-path (suc n) b (x ∷ p) h k l =
+      let o : ℕ × ℕ = (x .1, l .0) in
+      mem-right (x ∷ p) (cond (eqb (suc b) (body .count)) ([] ∷ []) []) (onward n b)
+      (each-in (exits body b) (λ o. map (λ p. (b, o .0) ∷ p) (paths body n (o .1))) o (x ∷ p) (l .2)
+      (subst (λ (y : Edge). Mem (y ∷ p) (map (λ (p : Path). (b, x .1) ∷ p) (paths body n (l .0)))) (λ i. (sym (l .1) i, x .1))
+      (map-in (λ (p : Path). (b, x .1) ∷ p) (paths body n (l .0)) p (leads-path n (l .0) p (w .inside b o (l .2)) (omega (arith, w .above b o (l .2))) (l .3)))))

@@ -1,23 +1,23 @@
 -- The tests and lists of Route read as document 01 words them: a path has a conflict exactly when such a pair stands in it in order with no effect on the variable
 -- between (`conflict-says`), and a beginning is exactly what some route begins with (`beginning-says`). Rests on Route, Steps, Passes and relations.
-use mathlib.Core.Path.{_≡_, refl, sym, ap, subst, _∙_}
+use mathlib.Core.Path.{_≡_, refl, sym, ap, subst}
 use mathlib.Core.Logic.{_↔_, _⊎_, inl, inr}
-use mathlib.Core.Bool.{Bool, true, false, not, cond, _||_, _&&_}
-use mathlib.Core.List.{List, [], _∷_, _++_, map, append-nil}
-use Prim.Native.Nat.{ℕ, zero, suc, _+_, _-_, _≤_, _<_}
+use mathlib.Core.Bool.{Bool, true, false, not, _||_, _&&_}
+use mathlib.Core.List.{[], _∷_, _++_, map}
+use Prim.Native.Nat.{ℕ, zero, suc, _+_, _≤_, _<_}
 use native.Mathlib.Omega.{arith}
-use borrow.Author.Tests.{eqb-true, eqb-false, eq-eqb}
+use borrow.Author.Tests.{eqb-true, eqb-false}
 use lib.Dec.{eqb}
 use lib.ListN.{length}
-use Rattle.laws.specs.Terms.{Mem, any, before, each}
+use Rattle.laws.specs.Terms.{Mem, any, before}
 use Rattle.laws.specs.Tests.{split, clash, and-out, and-in, or-out, or-in-left, or-in-right, not-out, any-in, any-out, before-in, before-out, is-false}
-use Rattle.laws.specs.Lists.{mem-left, mem-right, mem-append, each-in, each-out, map-in, map-out}
+use Rattle.laws.specs.Lists.{each-in, map-in}
 use Rattle.form.specs.declared.Body.{Body}
 use Rattle.form.specs.Conflict.{Edge, exits, isTest, condition, touches, opposes, denies, Contradict, Onward}
 use Rattle.relations.specs.Conditions.{contradict-says}
 use Rattle.theory.specs.Route.{Path, lastBlock, paths, beginnings, at, overwritten, conflict}
 use Rattle.theory.specs.Steps.{Leads, opposes-out}
-use Rattle.theory.specs.Passes.{paths-lead, beginnings-lead}
+use Rattle.theory.specs.Passes.{paths-lead, leads-path, beginnings-lead}
 
 -- ---- conflict
 
@@ -91,21 +91,6 @@ abbrev pub Going : Body → Type 0
 Going body = (b : ℕ) → suc b < body .count → (o : ℕ × ℕ) × Mem o (exits body b)
 
 module _ (body : Body) (w : Onward body) where
-  abbrev onward : ℕ → ℕ → List Path
-  onward n b = each (exits body b) (λ o. map (λ p. (b, o .0) ∷ p) (paths body n (o .1)))
-
-  -- a walk to the last block is a path
-  leads-path : (n b : ℕ) (p : Path) → b < body .count → body .count ≤ n + b → Leads body b p (lastBlock body) → Mem p (paths body n b)
-  unfolding paths
-  leads-path zero b p h k l = let z : ⊥ = omega arith in absurd z
-  leads-path (suc n) b [] h k l = mem-left [] (cond (eqb (suc b) (body .count)) ([] ∷ []) []) (onward n b) (subst (λ (c : Bool). Mem {A = Path} [] (cond c ([] ∷ []) [])) (sym (eq-eqb (suc b) (body .count) (omega arith))) (inl refl))
-  leads-path (suc n) b (x ∷ p) h k l =
-      let o : ℕ × ℕ = (x .1, l .0) in
-      mem-right (x ∷ p) (cond (eqb (suc b) (body .count)) ([] ∷ []) []) (onward n b)
-      (each-in (exits body b) (λ o. map (λ p. (b, o .0) ∷ p) (paths body n (o .1))) o (x ∷ p) (l .2)
-      (subst (λ (y : Edge). Mem (y ∷ p) (map (λ (p : Path). (b, x .1) ∷ p) (paths body n (l .0)))) (λ i. (sym (l .1) i, x .1))
-      (map-in (λ (p : Path). (b, x .1) ∷ p) (paths body n (l .0)) p (leads-path n (l .0) p (w .inside b o (l .2)) (omega (arith, w .above b o (l .2))) (l .3)))))
-
   leads-begin : (n b t : ℕ) (p : Path) → b < body .count → body .count ≤ n + b → Leads body b p t → Mem p (beginnings body n b)
   unfolding beginnings
   leads-begin zero b t p h k l = let z : ⊥ = omega arith in absurd z
@@ -143,6 +128,6 @@ module _ (body : Body) (w : Onward body) where
   beginning-says g h p = (
     λ m. let (t, l) = beginnings-lead body (body .count) 0 p m in
         let (q, k) = go-on g (body .count) t (ends-inside 0 t p h l) (omega arith) in
-        (q, leads-path (body .count) 0 (p ++ q) h (omega arith) (joined 0 t p q l k)),
+        (q, leads-path body w (body .count) 0 (p ++ q) h (omega arith) (joined 0 t p q l k)),
     λ m. let (t, l) = cut-off 0 p (m .0) (paths-lead body (body .count) 0 (p ++ m .0) (m .1)) in leads-begin (body .count) 0 t p h (omega arith) l,
   )
