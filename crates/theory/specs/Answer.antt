@@ -18,10 +18,10 @@ use Rattle.laws.specs.Orders.{Order, Choice, pair-order, ltb-order}
 use Rattle.laws.specs.Lists.{only-out, only-same, only-swap, only-map, map-same, each-same, map-in, map-out, anyOf-out}
 use Rattle.laws.specs.Rows.{put}
 use Rattle.form.specs.declared.Body.{Body}
-use Rattle.form.specs.Conflict.{Edge, Pair, Onward}
+use Rattle.form.specs.Conflict.{Edge, Pair, Onward, secondOf, same, listed}
 use Rattle.relations.specs.ConflictList.{exits-ordered}
 use Rattle.theory.specs.Route.{Path, lastBlock, paths, conflict, tails, routes, weighed, best, bestRoute, walked}
-use Rattle.theory.specs.Row.{Key, keyBefore, same, listed, bare, openEdges, addKey, keys, ofKey, found, rowOf, openTails}
+use Rattle.theory.specs.Row.{Key, keyBefore, bare, openEdges, addKey, keys, ofKey, found, rowOf, openTails}
 use Rattle.theory.specs.Machine.{Val, better, Machine, Forward, passedFrom, built}
 use Rattle.theory.specs.Table.{built-row}
 use Rattle.theory.specs.Walk.{visits, whole, within, carry, carried, walk, tally, given, walk-answer}
@@ -95,8 +95,8 @@ module _ (body : Body) (list : List Pair) where
   none-listed : (e : Edge) → listed list 0 e ≡ false
   unfolding listed
   none-listed e = is-false _ (λ h.
-      let (p, m, k) = anyOf-out (λ p. same (p .second, p .outcome) e && ltb (p .first) 0) list h in
-      clash (and-out (same (p .second, p .outcome) e) _ k .1) (le-ltb (p .first) 0 (omega arith)))
+      let (p, m, k) = anyOf-out (λ p. same (secondOf p) e && ltb (p .first) 0) list h in
+      clash (and-out (same (secondOf p) e) _ k .1) (le-ltb (p .first) 0 (omega arith)))
 
   -- no first is in a block below 0
   none-open : (p : Path) → openEdges body list 0 p ≡ noEdges

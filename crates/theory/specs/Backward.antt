@@ -9,11 +9,12 @@ use Prim.Native.Nat.{ℕ, _<_}
 use Rattle.laws.specs.Terms.{Mem}
 use Rattle.laws.specs.Tests.{both, and-out, and-in, or-out, or-in-left, or-in-right}
 use Rattle.form.specs.declared.Body.{Body}
-use Rattle.form.specs.Conflict.{Edge, Pair, exits, isTest, condition, opposes, denies, Onward, Clean}
+use Rattle.form.specs.Conflict.{Edge, Pair, exits, isTest, condition, opposes, denies, Onward, Clean, same, listed}
 use Rattle.theory.specs.Route.{Path, conflict}
-use Rattle.theory.specs.Row.{Key, same, listed, bare, openEdges}
+use Rattle.theory.specs.Row.{Key, bare, openEdges}
 use Rattle.theory.specs.Machine.{Machine}
-use Rattle.theory.specs.Steps.{Way, Real, Leads, wipes, against, denies-test, same-refl, same-eq, real-inside, real-way, hit, hit-of, hit-out, conflict-nil, conflict-cons, bare-nil, bare-cons, bare-real, bare-clean}
+use Rattle.relations.specs.Listed.{Way, Real, denies-test, same-refl, same-eq}
+use Rattle.theory.specs.Steps.{Leads, wipes, against, real-inside, real-way, hit, hit-of, hit-out, conflict-nil, conflict-cons, bare-nil, bare-cons, bare-real, bare-clean}
 use Rattle.theory.specs.Edges.{has, edgesOf, anyEdge, noEdges, has-edgesOf, any-edge-in, any-edge-out, edges-same, edges-none}
 
 -- ---- the machine

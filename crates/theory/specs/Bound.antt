@@ -19,7 +19,7 @@ use Rattle.laws.specs.Lists.{map-in, only-in}
 use Rattle.form.specs.declared.Body.{Body}
 use Rattle.form.specs.declared.Effect.{Effect}
 use Rattle.form.specs.Relation.{meets, opposite}
-use Rattle.form.specs.Conflict.{Edge, Condition, block, effectsOf, isTest, condition, met, opposes, denies, touches, later, lastOn, refuses, Onward}
+use Rattle.form.specs.Conflict.{Edge, Condition, block, effectsOf, isTest, condition, met, opposes, denies, touches, later, lastOn, refuses, Onward, Sound}
 use Rattle.relations.specs.Relations.{opposite-is}
 use Rattle.relations.specs.Conditions.{contradict-says}
 use Rattle.theory.specs.Route.{Path, lastBlock, paths, conflict, tails, routes, weight, weighed, choose, best, bestRoute}
@@ -28,7 +28,8 @@ use Rattle.theory.specs.Run.Do.{done, does}
 use Rattle.theory.specs.Run.Iteration.{ends, goes}
 use Rattle.theory.specs.Run.Run.{rests, repeats}
 use Rattle.theory.specs.Passes.{leads-path}
-use Rattle.theory.specs.Steps.{Leads, wipes, against, denies-test, opposes-out, hit, hit-nil, hit-cons, conflict-nil, conflict-cons}
+use Rattle.relations.specs.Listed.{denies-test, opposes-out}
+use Rattle.theory.specs.Steps.{Leads, wipes, against, hit, hit-nil, hit-cons, conflict-nil, conflict-cons}
 
 -- ---- effects
 
@@ -69,8 +70,8 @@ settled v (does {a = b} {l = l} {r = r} {s = s} {t = t} d m) a h k = last-of _ (
 
 -- ---- blocks
 
--- relations are known: what the reader sees to (15)
-abbrev pub Known : Body → Type 0
+-- relations are known
+abbrev Known : Body → Type 0
 Known body = (b : ℕ) → block body b .relation ≤ 5
 
 module _ (body : Body) where
@@ -190,13 +191,13 @@ module _ {B : Type 0} (prefers : ℕ → ℕ → Bool) (ch : Choice prefers) whe
 
 -- ---- runs
 
-module _ (body : Body) (w : Onward body) (k : Known body) (cost : ℕ → ℕ → ℕ) where
+module _ (body : Body) (g : Sound body) (cost : ℕ → ℕ → ℕ) where
   -- no iteration's weight is preferred to the best route's
   pub iteration-best : (prefers : ℕ → ℕ → Bool) → Choice prefers → {s t : State} {p : Path} → Iteration body 0 s p t → (v : ℕ × Path) → bestRoute body cost prefers ≡ some v
       → prefers (weight cost (lastBlock body) p) (v .0) ≡ false
   unfolding bestRoute
   iteration-best prefers ch {p = p} i v h =
-      best-most prefers ch (map (weighed body cost) (routes body)) v h (weighed body cost p) (map-in (weighed body cost) (routes body) p (iteration-route body w k i))
+      best-most prefers ch (map (weighed body cost) (routes body)) v h (weighed body cost p) (map-in (weighed body cost) (routes body) p (iteration-route body (g .onward) (g .known) i))
 
   run-cost : (v : ℕ × Path) → bestRoute body cost heavier ≡ some v → {l : List Path} → Run body l → runCost body cost l ≤ length l * v .0
   unfolding runCost

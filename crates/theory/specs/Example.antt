@@ -9,9 +9,9 @@ use Rattle.laws.specs.Terms.{heavier, range, setOf}
 use Rattle.form.specs.declared.Body.{Body}
 use Rattle.form.specs.declared.Block.{Block}
 use Rattle.form.specs.declared.Effect.{Effect}
-use Rattle.form.specs.Conflict.{Pair, block, effectsBelow, effectsOf, touches, lastOn, exits, isTest, condition, contradict, opposes, denies, clean, assigned, crossed, pairsOf, conflicts, conflictBytes}
+use Rattle.form.specs.Conflict.{Pair, block, effectsBelow, effectsOf, touches, lastOn, exits, isTest, condition, contradict, opposes, denies, clean, assigned, crossed, pairsOf, conflicts, conflictBytes, listed}
 use Rattle.theory.specs.Route.{stepCost, paths, conflict, tails, routes, weight, best, bestRoute, wayOf, routeBytes, beginnings, walked}
-use Rattle.theory.specs.Row.{Entry, listed, bare, openEdges, addKey, keys, rowOf, openTails, leftBy, row, longest, kept, highest, crowded}
+use Rattle.theory.specs.Row.{Entry, bare, openEdges, addKey, keys, rowOf, openTails, leftBy, row, longest, kept, highest, crowded}
 
 -- cost, jump
 abbrev goes : ℕ → ℕ → ℕ → Block

@@ -1,43 +1,21 @@
 -- The conflict list is what the sweep's machine needs: it lists every edge that a first below contradicts along a clean path, and only edges of tests.
 -- Rests on relations' ConflictList and Backward.
-use mathlib.Core.Path.{_≡_, refl, subst}
+use mathlib.Core.Path.{_≡_, refl}
 use mathlib.Core.Logic.{inl, inr}
-use mathlib.Core.Bool.{Bool, true, _&&_}
-use mathlib.Core.List.{List}
-use Prim.Native.Nat.{ℕ, _<_}
+use mathlib.Core.Bool.{true}
 use native.Mathlib.Omega.{arith}
-use borrow.Author.Tests.{ltb-true, lt-ltb}
-use lib.Dec.{ltb}
-use Rattle.laws.specs.Terms.{Mem}
-use Rattle.laws.specs.Tests.{and-out, and-in, or-out}
-use Rattle.laws.specs.Lists.{anyOf-out, anyOf-in}
+use Rattle.laws.specs.Tests.{or-out}
 use Rattle.form.specs.declared.Body.{Body}
-use Rattle.form.specs.Conflict.{Edge, Pair, isTest, condition, opposes, Onward, secondOf, assignmentPair, edgePair, conflicts, Holds}
+use Rattle.form.specs.Conflict.{Pair, isTest, condition, opposes, Onward, secondOf, assignmentPair, edgePair, conflicts, Holds}
 use Rattle.relations.specs.Conditions.{contradict-says}
 use Rattle.relations.specs.ConflictList.{conflicts-hold}
-use Rattle.theory.specs.Row.{same, listed}
-use Rattle.theory.specs.Steps.{denies-test, opposes-out, same-refl, same-eq}
+use Rattle.relations.specs.Listed.{listed-in, listed-out, denies-test, opposes-out}
 use Rattle.theory.specs.Backward.{Listing}
 
 module _ (body : Body) where
   holds-test : (p : Pair) → Holds body p → isTest body (p .second) ≡ true
   holds-test p (r, inl (k, v, a)) = denies-test body (p .first) (secondOf p) (a .0)
   holds-test p (r, inr (k, c)) = c .1
-
-  -- a pair of the list, with its first below b
-  abbrev pairs : ℕ → Edge → Pair → Bool
-  pairs b e p = same (p .second, p .outcome) e && ltb (p .first) b
-
-  pub listed-out : (list : List Pair) (b : ℕ) (e : Edge) → listed list b e ≡ true → (p : Pair) × Mem p list × (secondOf p ≡ e) × (p .first < b)
-  unfolding listed
-  listed-out list b e h =
-      let (p, m, k) = anyOf-out (pairs b e) list h in
-      let (s, l) = and-out (same (p .second, p .outcome) e) _ k in
-      (p, m, same-eq (secondOf p) e s, ltb-true (p .first) b l)
-
-  pub listed-in : (list : List Pair) (b : ℕ) (e : Edge) (p : Pair) → Mem p list → secondOf p ≡ e → p .first < b → listed list b e ≡ true
-  unfolding listed
-  listed-in list b e p m q h = let s : same (p .second, p .outcome) e ≡ true = subst (λ (z : Edge). same (secondOf p) z ≡ true) q (same-refl (secondOf p)) in anyOf-in (pairs b e) list p m (and-in s (lt-ltb (p .first) b h))
 
   pub listing : Onward body → Listing body (conflicts body)
   listing w = record {

@@ -13,10 +13,11 @@ use Rattle.laws.specs.Terms.{Mem, any, before}
 use Rattle.laws.specs.Tests.{split, clash, and-out, and-in, or-out, or-in-left, or-in-right, not-out, any-in, any-out, before-in, before-out, is-false}
 use Rattle.laws.specs.Lists.{each-in, map-in}
 use Rattle.form.specs.declared.Body.{Body}
-use Rattle.form.specs.Conflict.{Edge, exits, isTest, condition, touches, opposes, denies, Contradict, Onward}
+use Rattle.form.specs.Conflict.{Edge, exits, isTest, condition, touches, opposes, denies, Contradict, Onward, Sound}
 use Rattle.relations.specs.Conditions.{contradict-says}
 use Rattle.theory.specs.Route.{Path, lastBlock, paths, beginnings, at, overwritten, conflict}
-use Rattle.theory.specs.Steps.{Leads, opposes-out}
+use Rattle.relations.specs.Listed.{opposes-out}
+use Rattle.theory.specs.Steps.{Leads}
 use Rattle.theory.specs.Passes.{paths-lead, leads-path, beginnings-lead}
 
 -- ---- conflict
@@ -86,10 +87,6 @@ module _ (body : Body) where
 
 -- ---- beginnings
 
--- every block but the last has an exit: what the reader sees to (18)
-abbrev pub Going : Body → Type 0
-Going body = (b : ℕ) → suc b < body .count → (o : ℕ × ℕ) × Mem o (exits body b)
-
 module _ (body : Body) (w : Onward body) where
   leads-begin : (n b t : ℕ) (p : Path) → b < body .count → body .count ≤ n + b → Leads body b p t → Mem p (beginnings body n b)
   unfolding beginnings
@@ -102,7 +99,7 @@ module _ (body : Body) (w : Onward body) where
       (map-in (λ (p : Path). (b, x .1) ∷ p) (beginnings body n (l .0)) p (leads-begin n (l .0) t p (w .inside b o (l .2)) (omega (arith, w .above b o (l .2))) (l .3)))))
 
   -- from every block some path leads to the end
-  go-on : Going body → (n b : ℕ) → b < body .count → body .count ≤ n + b → (q : Path) × Leads body b q (lastBlock body)
+  go-on : ((b : ℕ) → suc b < body .count → (o : ℕ × ℕ) × Mem o (exits body b)) → (n b : ℕ) → b < body .count → body .count ≤ n + b → (q : Path) × Leads body b q (lastBlock body)
   go-on g zero b h k = let z : ⊥ = omega arith in absurd z
   go-on g (suc n) b h k = split (eqb (suc b) (body .count))
       (λ e. let d : suc b ≡ body .count = eqb-true (suc b) (body .count) e in ([], omega arith))
@@ -123,11 +120,11 @@ module _ (body : Body) (w : Onward body) where
   ends-inside b t [] h l = subst (λ (u : ℕ). u < body .count) l h
   ends-inside b t (x ∷ p) h l = ends-inside (l .0) t p (w .inside b (x .1, l .0) (l .2)) (l .3)
 
-  -- a beginning is what some path to the end begins with
-  pub beginning-says : Going body → 0 < body .count → (p : Path) → Mem p (beginnings body (body .count) 0) ↔ ((q : Path) × Mem (p ++ q) (paths body (body .count) 0))
-  beginning-says g h p = (
-    λ m. let (t, l) = beginnings-lead body (body .count) 0 p m in
-        let (q, k) = go-on g (body .count) t (ends-inside 0 t p h l) (omega arith) in
-        (q, leads-path body w (body .count) 0 (p ++ q) h (omega arith) (joined 0 t p q l k)),
-    λ m. let (t, l) = cut-off 0 p (m .0) (paths-lead body (body .count) 0 (p ++ m .0) (m .1)) in leads-begin (body .count) 0 t p h (omega arith) l,
-  )
+-- a beginning is what some path to the end begins with
+pub beginning-says : (body : Body) → Sound body → (p : Path) → Mem p (beginnings body (body .count) 0) ↔ ((q : Path) × Mem (p ++ q) (paths body (body .count) 0))
+beginning-says body g p = (
+  λ m. let (t, l) = beginnings-lead body (body .count) 0 p m in
+      let (q, k) = go-on body (g .onward) (g .going) (body .count) t (ends-inside body (g .onward) 0 t p (g .some) l) (omega arith) in
+      (q, leads-path body (g .onward) (body .count) 0 (p ++ q) (g .some) (omega arith) (joined body (g .onward) 0 t p q l k)),
+  λ m. let (t, l) = cut-off body (g .onward) 0 p (m .0) (paths-lead body (body .count) 0 (p ++ m .0) (m .1)) in leads-begin body (g .onward) (body .count) 0 t p (g .some) (omega arith) l,
+)

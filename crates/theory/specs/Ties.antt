@@ -17,11 +17,12 @@ use Rattle.laws.specs.Tests.{split, clash, and-in, or-out, or-in-left, or-in-ri
 use Rattle.laws.specs.Orders.{next-same}
 use Rattle.laws.specs.Sets.{ext, setOf-lt, bit-setOf, bit-with, lowest-bit, no-lowest}
 use Rattle.form.specs.declared.Body.{Body}
-use Rattle.form.specs.Conflict.{Edge, block, exitsBy, exits, Onward}
+use Rattle.form.specs.Conflict.{Edge, block, exitsBy, exits, Onward, same}
 use Rattle.theory.specs.Route.{Path, lastBlock, wayOf}
-use Rattle.theory.specs.Row.{same, leftBy}
+use Rattle.theory.specs.Row.{leftBy}
 use Rattle.theory.specs.Machine.{edgeBefore, edge-order, first, first-order}
-use Rattle.theory.specs.Steps.{Way, way-of, Leads, same-eq}
+use Rattle.relations.specs.Listed.{Way, way-of, same-eq}
+use Rattle.theory.specs.Steps.{Leads}
 
 -- the path leaves block k by the way
 abbrev pub leaves : ℕ → Path → ℕ → Bool

@@ -15,9 +15,9 @@ use Rattle.laws.specs.Orders.{Choice}
 use Rattle.laws.specs.Lists.{only-out, map-same, range-out}
 use Rattle.laws.specs.Sets.{ext, bit-or, bit-none}
 use Rattle.form.specs.declared.Body.{Body}
-use Rattle.form.specs.Conflict.{Edge, Onward}
+use Rattle.form.specs.Conflict.{Edge, Onward, same}
 use Rattle.theory.specs.Route.{Path, lastBlock, paths, conflict, tails, routes, weight, weighed, choose, best, bestRoute, wayOf, routeBytes, walked}
-use Rattle.theory.specs.Row.{same, leftBy}
+use Rattle.theory.specs.Row.{leftBy}
 use Rattle.theory.specs.Machine.{Val}
 use Rattle.theory.specs.Walk.{carry, within, walk, tally}
 use Rattle.theory.specs.Steps.{Leads}
