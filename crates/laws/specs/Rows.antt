@@ -258,3 +258,24 @@ module _ {K B : Type 0} (lt : K → K → Bool) (bt : B → B → Bool) where
   unfolding insert
   insert-grows e [] = omega arith
   insert-grows e (x ∷ r) = place-grows (lt (e .0) (x .0)) (lt (x .0) (e .0)) e x r (insert lt bt e r) (insert-grows e r)
+
+-- ---- where an entry goes
+
+module _ {K B : Type 0} (lt : K → K → Bool) (bt : B → B → Bool) (oK : Order lt) where
+  -- behind the entries of lower keys
+  pub insert-past : (e : K × B) (a r : List (K × B)) → ((x : K × B) → Mem x a → lt (x .0) (e .0) ≡ true) → insert lt bt e (a ++ r) ≡ a ++ insert lt bt e r
+  unfolding insert
+  insert-past e [] r h = refl
+  insert-past e (x ∷ a) r h =
+      let l : lt (x .0) (e .0) ≡ true = h x (inl refl) in
+      rw (asym oK (x .0) (e .0) l, l) (ap (λ t. x ∷ t) (insert-past e a r (λ y m. h y (inr m))))
+
+  -- in front of the first higher key
+  pub insert-before : (e x : K × B) (r : List (K × B)) → lt (e .0) (x .0) ≡ true → insert lt bt e (x ∷ r) ≡ e ∷ x ∷ r
+  unfolding insert
+  insert-before e x r h = rw h
+
+  -- at its own key, where the better stays
+  pub insert-at : (e x : K × B) (r : List (K × B)) → e .0 ≡ x .0 → insert lt bt e (x ∷ r) ≡ cond (bt (e .1) (x .1)) e x ∷ r
+  unfolding insert
+  insert-at e x r h = rw (h, oK .irr (x .0))

@@ -78,6 +78,11 @@ module _ {K B : Type 0} (lt : K → K → Bool) (bt : B → B → Bool) where
   pour s g [] r = r
   pour s g (e ∷ l) r = pour s g l (push (s (e .0)) (g (e .1)) r)
 
+  pub pour-append : (s : K → Option K) (g : B → B) (l m r : List (K × B)) → pour s g (l ++ m) r ≡ pour s g m (pour s g l r)
+  unfolding pour
+  pour-append s g [] m r = refl
+  pour-append s g (e ∷ l) m r = pour-append s g l m (push (s (e .0)) (g (e .1)) r)
+
 module _ {K : Type 0} (M : Machine K) (lt : K → K → Bool) (bt : Val → Val → Bool) where
   -- into the row r, the entries of the targets' rows, one way after another
   unfoldable pub fill : (ℕ → List (K × Val)) → ℕ → List (ℕ × ℕ) → List (K × Val) → List (K × Val)

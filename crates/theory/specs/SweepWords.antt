@@ -11,7 +11,7 @@ use native.Mathlib.Nat.{le-refl, le-trans}
 use native.Mathlib.Omega.{arith}
 use borrow.Author.Tests.{eqb-true}
 use lib.Dec.{eqb}
-use lib.ListN.{length}
+use lib.ListN.{length, length-map}
 use Rattle.laws.specs.Terms.{Mem, Sorted, next}
 use Rattle.laws.specs.Orders.{Choice}
 use Rattle.laws.specs.Lists.{map-out, only-out}
@@ -51,6 +51,9 @@ entryFrom e = record { jumps = e .0 .0; falls = e .0 .1; weight = e .1 .0; jumpe
 pub row-words : (body : Body) (list : List Pair) (cost : ℕ → ℕ → ℕ) (prefers : ℕ → ℕ → Bool) (b : ℕ) → row body list cost prefers b ≡ map entryFrom (rowWords body list cost prefers b)
 unfolding row
 row-words body list cost prefers b = sym (map-map entryFrom (onWords body) (rowOf keyBefore prefers (openTails body list cost b)))
+
+pub row-length : (body : Body) (list : List Pair) (cost : ℕ → ℕ → ℕ) (prefers : ℕ → ℕ → Bool) (b : ℕ) → length (row body list cost prefers b) ≡ length (rowWords body list cost prefers b)
+row-length body list cost prefers b = ap length (row-words body list cost prefers b) ∙ length-map (rowWords body list cost prefers b) entryFrom
 
 -- row 0 is the first route of the preferred weight, or nothing
 abbrev pub wordsFound : Body → Option Val → Option Words

@@ -1,7 +1,8 @@
 -- Theorem 2, for any machine read from a path's start, preference and costs: the recursion from block to block visits exactly the beginnings that the machine
 -- allows, in order, with what it carries along (`walk-is`); counted against a budget and with the first best kept, it gives their number and the best of the
 -- whole paths, or stops as soon as the number exceeds the budget (`walk-from`, `walk-answer`). Rests on Machine and Route.
-use mathlib.Core.Path.{_≡_, refl, sym, ap, _∙_}
+use mathlib.Core.Path.{_≡_, refl, sym, ap, ap₂, _∙_}
+use mathlib.Core.Logic.{inl, inr}
 use mathlib.Core.Bool.{Bool, true, false, cond}
 use mathlib.Core.List.{List, [], _∷_, _++_, map, map-append, map-map}
 use mathlib.Core.Option.{Option, none, some}
@@ -11,12 +12,12 @@ use native.Mathlib.Omega.{arith}
 use borrow.Author.Tests.{ltb-false, le-ltb, lt-ltb, ltb-true}
 use lib.Dec.{eqb, ltb}
 use lib.ListN.{length, length-map}
-use Rattle.laws.specs.Terms.{only}
+use Rattle.laws.specs.Terms.{Mem, only}
 use Rattle.laws.specs.Lists.{only-map}
 use Rattle.laws.specs.Orders.{Choice, ntrans}
 use Rattle.form.specs.Conflict.{Edge}
 use Rattle.theory.specs.Route.{Path, choose, best}
-use Rattle.theory.specs.Machine.{Val, grow, Machine}
+use Rattle.theory.specs.Machine.{Val, grow, Machine, Forward}
 
 -- ---- what is visited
 
@@ -113,6 +114,36 @@ module _ {S : Type 0} (M : Machine S) {C : Type 0} (advance : Edge → C → C) 
   unfolding walk visits
   walk-is zero b s c a = refl
   walk-is (suc n) b s c a = then-same (visit a (b, c)) _ _ (λ d. branch-is (λ t u e. walk n t u e) (λ t u. visits M n t u) (λ t u e d. walk-is n t u e d) b s c (M .outs b) d)
+
+-- ---- enough blocks are enough
+
+module _ {S : Type 0} (M : Machine S) where
+  if-same : {A : Type 0} (o : Option S) (f g : S → List A) → ((u : S) → f u ≡ g u) → ifAllowed M o f ≡ ifAllowed M o g
+  if-same none f g h = refl
+  if-same (some u) f g h = h u
+
+  by-same : (R Q : ℕ → S → List (ℕ × Val)) (b : ℕ) (s : S) (os : List (ℕ × ℕ)) → ((o : ℕ × ℕ) → Mem o os → (u : S) → R (o .1) u ≡ Q (o .1) u) → visitBy M R b s os ≡ visitBy M Q b s os
+  by-same R Q b s [] h = refl
+  by-same R Q b s (o ∷ os) h =
+      ap₂ (λ l r. map (extend M b (o .0)) l ++ r) (if-same (M .step (b, o .0) s) (R (o .1)) (Q (o .1)) (h o (inl refl))) (by-same R Q b s os (λ q m. h q (inr m)))
+
+  visits-enough : Forward M → (f g b : ℕ) (s : S) → b < M .count → M .count ≤ f + b → M .count ≤ g + b → visits M f b s ≡ visits M g b s
+  unfolding visits
+  visits-enough w zero g b s h p q = let z : ⊥ = omega arith in absurd z
+  visits-enough w (suc f) zero b s h p q = let z : ⊥ = omega arith in absurd z
+  visits-enough w (suc f) (suc g) b s h p q =
+      ap (λ t. arrive M b ∷ t) (by-same (λ t u. visits M f t u) (λ t u. visits M g t u) b s (M .outs b)
+      (λ o m u. visits-enough w f g (o .1) u (w .inside b o m) (omega (arith, w .on b o m)) (omega (arith, w .on b o m))))
+
+  -- one turn of the recursion, with no bound on the blocks
+  pub walk-eq : Forward M → {C A : Type 0} (advance : Edge → C → C) (visit : A → ℕ × C → Option A) (b : ℕ) (s : S) (c : C) (a : A) → b < M .count
+      → walk M advance visit (M .count) b s c a
+      ≡ andThen (visit a (b, c)) (λ d. branch M advance visit (λ t u e. walk M advance visit (M .count) t u e) b s c (M .outs b) d)
+  unfolding walk
+  walk-eq w advance visit b s c a h =
+      walk-is M advance visit (M .count) b s c a
+      ∙ ap (λ l. foldM visit a (map (carried advance c) l)) (visits-enough w (M .count) (suc (M .count)) b s h (omega arith) (omega arith))
+      ∙ sym (walk-is M advance visit (suc (M .count)) b s c a)
 
 -- ---- counted against a budget, the first best kept
 
