@@ -3,30 +3,31 @@
 -- that has grown past 64 stays so (`fill-grows`). Rests on Answer and Ties.
 use mathlib.Core.Path.{_≡_, refl, sym, ap, subst, _∙_}
 use mathlib.Core.Logic.{inl, inr}
-use mathlib.Core.Bool.{Bool, true, false, not, cond}
+use mathlib.Core.Bool.{Bool, true, false, not, cond, _&&_}
 use mathlib.Core.List.{List, [], _∷_, map, map-map}
 use mathlib.Core.Option.{Option, none, some}
-use Prim.Native.Nat.{ℕ, suc, _+_, _≤_, _<_}
-use native.Mathlib.Nat.{le-refl, le-trans}
+use Prim.Native.Nat.{ℕ, suc, _+_, _≤_, _<_, _-_, _*_, _^_}
+use native.Mathlib.Nat.{le-refl, le-trans, one-mul, suc-mul, mul-le-mul-right}
 use native.Mathlib.Omega.{arith}
 use borrow.Author.Tests.{eqb-true}
 use lib.Dec.{eqb}
 use lib.ListN.{length, length-map}
+use Rattle.laws.specs.Sets.{setOf-lt}
 use Rattle.laws.specs.Terms.{Mem, Sorted, next}
 use Rattle.laws.specs.Orders.{Choice}
 use Rattle.laws.specs.Lists.{map-out, only-out}
 use Rattle.laws.specs.Rows.{insert, covers-insert, insert-across, insert-grows}
 use Rattle.form.specs.declared.Body.{Body}
-use Rattle.form.specs.Conflict.{Edge, Pair, exits, Onward}
-use Rattle.theory.specs.Route.{Path, lastBlock, paths, conflict, tails, weighed, bestRoute}
-use Rattle.theory.specs.Row.{Key, keyBefore, openEdges, found, rowOf, openTails, leftBy, Entry, row}
+use Rattle.form.specs.Conflict.{Edge, Pair, exits, Onward, listed}
+use Rattle.theory.specs.Route.{Path, lastBlock, paths, conflict, tails, weighed, bestRoute, weight}
+use Rattle.theory.specs.Row.{Key, keyBefore, openEdges, found, rowOf, openTails, leftBy, Entry, row, bare}
 use Rattle.theory.specs.Machine.{Val, grow, better, base, push, pour, fill, passed-sorted, ahead}
 use Rattle.theory.specs.RowLaws.{better-order, row-is}
 use Rattle.theory.specs.Steps.{Leads}
 use Rattle.theory.specs.Edges.{noEdges}
 use Rattle.theory.specs.Backward.{Listing, stepBack, backMachine}
 use Rattle.theory.specs.Passes.{paths-lead}
-use Rattle.theory.specs.Ties.{mark, earlier, left-cons, left-nil, earlier-first}
+use Rattle.theory.specs.Ties.{mark, earlier, left-cons, left-nil, earlier-first, left-lt}
 use Rattle.theory.specs.Answer.{key-order, passed-tails, sweep-row, row-zero}
 use Rattle.relations.specs.ConflictList.{exits-ordered}
 
@@ -208,3 +209,49 @@ module _ (body : Body) (w : Onward body) (list : List Pair) (cost : ℕ → ℕ 
           where
             by : (c : Bool) → eqb (suc b) (body .count) ≡ c → Mem e (cond c ((noEdges, (cost b 0, [])) ∷ []) []) → Leads body b (e .1 .1) (lastBlock body)
             by true q (inl p) = let d : suc b ≡ body .count = eqb-true (suc b) (body .count) q in subst (λ (v : Key × Val). Leads body b (v .1 .1) (lastBlock body)) (sym p) (omega arith)
+
+-- ---- how large the entries are
+
+-- a path weighs at most the greatest cost for each block from its first on
+pub weight-most : (body : Body) → Onward body → (cost : ℕ → ℕ → ℕ) (most : ℕ) → ((b way : ℕ) → cost b way ≤ most) → (b : ℕ) (p : Path) → b < body .count → Leads body b p (lastBlock body)
+    → weight cost (lastBlock body) p ≤ (body .count - b) * most
+unfolding weight
+weight-most body w cost most h b [] l k = let e : body .count - b ≡ 1 = omega arith in rw (e, one-mul most) (h (lastBlock body) 0)
+weight-most body w cost most h b (x ∷ p) l k =
+    let u = k .0 in
+    let m = k .2 in
+    let step : suc (body .count - u) ≤ body .count - b = omega (arith, w .above b (x .1, u) m, w .inside b (x .1, u) m) in
+    le-trans (sum (cost (x .0) (x .1)) (weight cost (lastBlock body) p) (body .count - u) (h (x .0) (x .1)) (weight-most body w cost most h u p (w .inside b (x .1, u) m) (k .3))) (mul-le-mul-right most step)
+  where
+    sum : (a c n : ℕ) → a ≤ most → c ≤ n * most → a + c ≤ suc n * most
+    sum a c n p q = rw (suc-mul n most) (omega arith)
+
+pub record Fits (body : Body) (most b : ℕ) (e : Key × Words) : Type 0 where
+  pub jumps : e .0 .0 < 2 ^ body .count
+  pub falls : e .0 .1 < 2 ^ body .count
+  pub weighs : e .1 .0 ≤ (body .count - b) * most
+  pub jumped : e .1 .1 .0 < 2 ^ body .count
+  pub fallen : e .1 .1 .1 < 2 ^ body .count
+
+module _ (body : Body) (w : Onward body) (list : List Pair) (L : Listing body list) (cost : ℕ → ℕ → ℕ) (most : ℕ) (cheap : (b way : ℕ) → cost b way ≤ most) (prefers : ℕ → ℕ → Bool) (ch : Choice prefers) where
+  path-fits : (b : ℕ) (p : Path) → b < body .count → Leads body b p (lastBlock body) → Fits body most b (onWords body (openEdges body list b p, weighed body cost p))
+  unfolding openEdges
+  path-fits b p h l = record {
+    jumps = setOf-lt (body .count) (λ k. bare body p (k, 1) && listed list b (k, 1));
+    falls = setOf-lt (body .count) (λ k. bare body p (k, 2) && listed list b (k, 2));
+    weighs = weight-most body w cost most cheap b p h l;
+    jumped = left-lt body 1 p;
+    fallen = left-lt body 2 p;
+  }
+
+  pub entry-fits : (b : ℕ) → b < body .count → (e : Key × Words) → Mem e (rowWords body list cost prefers b) → Fits body most b e
+  unfolding openTails tails
+  entry-fits b h e m =
+      let (d, i, q) = map-out (onWords body) (rowOf keyBefore prefers (openTails body list cost b)) e m in
+      let j = row-is keyBefore key-order prefers ch (openTails body list cost b) (tails-sorted body w list cost prefers ch (body .count) (le-refl (body .count)) L b) .covers .from d i in
+      let (p, k, r) = map-out (λ (p : Path). (openEdges body list b p, weighed body cost p)) (tails body b) d j in
+      let l = paths-lead body (body .count) b p (only-out (λ p. not (conflict body p)) (paths body (body .count) b) p k .1) in
+      by d p q r (path-fits b p h l)
+    where
+      by : (d : Key × Val) (p : Path) → e ≡ onWords body d → d ≡ (openEdges body list b p, weighed body cost p) → Fits body most b (onWords body (openEdges body list b p, weighed body cost p)) → Fits body most b e
+      by d p q r f = subst (Fits body most b) (sym (q ∙ ap (onWords body) r)) f
