@@ -19,3 +19,4 @@ pub mod Ties
 pub mod SweepWords
 pub mod WalkWords
 pub mod Readings
+pub mod Main
