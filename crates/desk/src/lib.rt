@@ -4,7 +4,6 @@ ghost use mathlib.Core.Path.{_≡_};
 ghost use lib.ListN.{length};
 ghost use Rattle.form.specs.Form.{judge};
 ghost use Rattle.desk.specs.Answer.{formAnswer, verdictAnswer, writtenAnswer, rewriteAnswer, rewriteHeld};
-
 use form::Verdict;
 use form::Written;
 

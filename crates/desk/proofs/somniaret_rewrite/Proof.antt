@@ -69,9 +69,10 @@ returns-2 c =
     let accepting = ap accepted (sym (verdict-is read)) ∙ (sym (tested .accepts .ensures) ∙ not-false _ (wrote .before .before .before .if1 .left)) in
     let body = body-is read accepting in
     let out = read .before .before .before .args .out .now in
-    let answer = wrote .write .ensures .0 ∙ ap (λ (b : Body). written b (length out)) body in
-    ( rw accepting (c .of-written .ensures ∙ ap writtenAnswer answer)
-    , rw accepting (wrote .write .ensures .1 ∙ (λ i. heldAfter (answer i) (lay (body i)) out)) )
+    let answer = wrote .write .ensures .0 ∙ ap (λ (b : Body). written b (length out)) body in (
+      rw accepting (c .of-written .ensures ∙ ap writtenAnswer answer),
+      rw accepting (wrote .write .ensures .1 ∙ (λ i. heldAfter (answer i) (lay (body i)) out)),
+    )
 
 pub somniaret-rewrite-spec : {M : Type 1} → statement M
 somniaret-rewrite-spec =
