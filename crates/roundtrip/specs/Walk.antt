@@ -8,15 +8,16 @@ use native.Mathlib.Nat.{zero-add, add-zero, suc-add}
 use native.Mathlib.Omega.{arith}
 use borrow.Author.Tests.{ltb-true, ltb-false, leb-false, eqb-true, eqb-false, not-false, lt-ltb, eq-eqb}
 use lib.Dec.{ltb, leb, eqb, lit<, lit≤}
-use lib.ListN.{length}
+use lib.ListN.{length, take}
 use Rattle.laws.specs.Tests.{split, clash, or-no}
 use Rattle.form.specs.declared.Block.{Block}
 use Rattle.form.specs.declared.Effect.{Effect}
 use Rattle.form.specs.declared.Verdict.{Verdict}
 use Rattle.form.specs.declared.Verdict.the-variants.{Accepted, Refused}
-use Rattle.form.specs.Form.{when, byteAt, number4, lengthAt, kindAt, isCounter, isBlock, isEffect, recordLength, recordsFrom, stray, someTarget, badCounter, badWays, badBlock, badEffect, badField, badTarget, outOfPlace, overLimit, payloadFault, recordFault, oneIf, judged, judgeEnds, judgeRecords, judge, gather, ownEffects, blocksIn, effectsIn, sumOwn}
+use Rattle.form.specs.Form.{when, byteAt, number4, lengthAt, kindAt, isCounter, isBlock, isEffect, recordLength, recordsFrom, stray, someTarget, badCounter, badWays, badBlock, badEffect, badField, badTarget, outOfPlace, overLimit, payloadFault, recordFault, oneIf, judged, judgeEnds, judgeRecords, judge, gather, ownEffects, blocksIn, effectsIn, zeroBlock, zeroEffect, bodyOf, sumOwn}
 use Rattle.form.specs.Answer.{accepted}
 use Rattle.form.specs.Records.{next, records-end, records-step, rest-leave, rest-pass, end-none}
+use Rattle.roundtrip.specs.Filled.{take-fill}
 
 pub refused : {number place : ℕ} → Refused number place ≡ Accepted → ⊥
 refused e = clash (ap accepted e) refl
@@ -30,24 +31,27 @@ judged-out fault place rest a = go (eqb fault 0) refl a
 
 -- ---- tests that fail
 
-no-fault : (t : Bool) (n rest : ℕ) → 0 < n → when t n rest ≡ 0 → (t ≡ false) × (rest ≡ 0)
+pub no-fault : (t : Bool) (n rest : ℕ) → 0 < n → when t n rest ≡ 0 → (t ≡ false) × (rest ≡ 0)
 no-fault true n rest h e = absurd (omega arith)
 no-fault false n rest h e = (refl, e)
 
+pub second-fails : {a : Bool} (b : Bool) → a ≡ true → (a && b) ≡ false → b ≡ false
+second-fails b e h = subst (λ (t : Bool). (t && b) ≡ false) e h
+
 -- a field that is not stray is zero where its ending does not use it
 no-stray : (first ending x : ℕ) → stray first ending x ≡ false → ending < first → x ≡ 0
-no-stray first ending x e h = omega (arith, ltb-false 0 x (subst (λ (t : Bool). (t && ltb 0 x) ≡ false) (lt-ltb ending first h) e))
+no-stray first ending x e h = omega (arith, ltb-false 0 x (second-fails (ltb 0 x) (lt-ltb ending first h) e))
 
 -- a used target fails the test
-no-target : (ending : ℕ) (jump fall : Bool) → someTarget ending jump fall ≡ false → (0 < ending → jump ≡ false) × (1 < ending → fall ≡ false)
+pub no-target : (ending : ℕ) (jump fall : Bool) → someTarget ending jump fall ≡ false → (0 < ending → jump ≡ false) × (1 < ending → fall ≡ false)
 no-target ending jump fall e =
     let (j, f) = or-no (ltb 0 ending && jump) (ltb 1 ending && fall) e in
-    ((λ h. subst (λ (t : Bool). (t && jump) ≡ false) (lt-ltb 0 ending h) j), (λ h. subst (λ (t : Bool). (t && fall) ≡ false) (lt-ltb 1 ending h) f))
+    ((λ h. second-fails jump (lt-ltb 0 ending h) j), (λ h. second-fails fall (lt-ltb 1 ending h) f))
 
-one-more : (b n : ℕ) → b + 1 + n ≡ b + suc n
+pub one-more : (b n : ℕ) → b + 1 + n ≡ b + suc n
 one-more b n = omega arith
 
-some-before : (b : ℕ) → eqb b 0 ≡ false → 0 < b
+pub some-before : (b : ℕ) → eqb b 0 ≡ false → 0 < b
 some-before zero e = absurd (eqb-false 0 0 e refl)
 some-before (suc b) e = omega arith
 
@@ -387,3 +391,11 @@ counts s f = rw (blocks-after s f, effects-after s f) after
       none-early = none-early;
       owned = omega (arith, none-early, owned s w);
     }
+
+-- and the body holds them, up to its counts
+module _ (s : List ℕ) (f : Form s) where
+  pub blocks-read : take (bodyOf s .count) (bodyOf s .blocks) ≡ blocksIn s (recordsFrom s 0)
+  blocks-read = take-fill zeroBlock 64 (blocksIn s (recordsFrom s 0)) (counts s f .few-blocks)
+
+  pub effects-read : take (bodyOf s .total) (bodyOf s .effects) ≡ effectsIn s (recordsFrom s 0)
+  effects-read = take-fill zeroEffect 256 (effectsIn s (recordsFrom s 0)) (counts s f .few-effects)

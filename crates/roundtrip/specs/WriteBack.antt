@@ -22,8 +22,8 @@ use Rattle.form.specs.Form.{byteAt, number4, signed4, lengthAt, kindAt, isBlock
 use Rattle.form.specs.Answer.{written, heldAfter}
 use Rattle.form.specs.Writing.{room-enough}
 use Rattle.roundtrip.specs.Digits.{OfBytes, left-bytes, left-length, left-number2, left-block, left-effect, spread, spread-all, two, four, fits4}
-use Rattle.roundtrip.specs.Walk.{BlockRecord, EffectRecord, Walk, finish, block, effect, Form, form, Counts, counts, blocks-after, effects-after}
-use Rattle.roundtrip.specs.Filled.{take-fill}
+use Rattle.roundtrip.specs.Walk.{BlockRecord, EffectRecord, Walk, finish, block, effect, Form, form, Counts, counts, blocks-after, effects-after, blocks-read, effects-read}
+use Rattle.roundtrip.specs.Sound.{sound, sound-counts}
 use Rattle.roundtrip.specs.Laid.{Laid, laid-as, none, block as laid-block, effect as laid-effect, laid-from-start, lay-taken}
 
 -- ---- each record's bytes come back
@@ -79,42 +79,32 @@ module _ (s : List ℕ) (h : OfBytes s) where
 -- ---- the theorem
 
 module _ (s : List ℕ) (a : judge s ≡ Accepted) where
-  f : Form s
-  f = form s a
+  read : Form s
+  read = form s a
 
-  c : Counts s (blocksIn s (recordsFrom s 0)) (effectsIn s (recordsFrom s 0))
-  c = counts s f
-
-  blocks-read : take (bodyOf s .count) (bodyOf s .blocks) ≡ blocksIn s (recordsFrom s 0)
-  blocks-read = take-fill zeroBlock 64 (blocksIn s (recordsFrom s 0)) (c .few-blocks)
-
-  effects-read : take (bodyOf s .total) (bodyOf s .effects) ≡ effectsIn s (recordsFrom s 0)
-  effects-read = take-fill zeroEffect 256 (effectsIn s (recordsFrom s 0)) (c .few-effects)
+  number : Counts s (blocksIn s (recordsFrom s 0)) (effectsIn s (recordsFrom s 0))
+  number = counts s read
 
   -- the counts of an accepted form fit
   pub counts-back : countsFit (bodyOf s) ≡ true
-  unfolding countsFit
-  counts-back =
-      rw
-      (le-leb (length (blocksIn s (recordsFrom s 0))) 64 (c .few-blocks), le-leb (length (effectsIn s (recordsFrom s 0))) 256 (c .few-effects), blocks-read)
-      (eq-eqb _ _ (c .owned))
+  counts-back = sound-counts (bodyOf s) (sound s a)
 
   -- and it is laid out as it was read
   module _ (h : OfBytes s) where
     after-counter : layBlocks (blocksIn s (recordsFrom s 0)) (effectsIn s (recordsFrom s 0)) ≡ drop 17 s
     after-counter =
-        (λ i. layBlocks (blocks-after s f i) (effects-after s f i)) ∙ laid-from-start (read-laid s h (f .walk)) (c .none-early)
+        (λ i. layBlocks (blocks-after s read i) (effects-after s read i)) ∙ laid-from-start (read-laid s h (read .walk)) (number .none-early)
 
     counter-back : counterBytes (counterAt s 0) ++ drop 17 s ≡ s
-    counter-back = counter-again s h (f .counter .size) (f .counter .kind) (f .counter .room)
+    counter-back = counter-again s h (read .counter .size) (read .counter .kind) (read .counter .room)
 
     pub lay-back : lay (bodyOf s) ≡ s
     unfolding lay
     lay-back =
         ap (λ (l : List ℕ). counterBytes (counterAt s 0) ++ l)
-        (ap (λ (ks : List Block). layBlocks ks (bodyOf s .effects)) blocks-read
-        ∙ (sym (lay-taken (blocksIn s (recordsFrom s 0)) (bodyOf s .total) (bodyOf s .effects) (omega (arith, c .owned)))
-        ∙ (ap (layBlocks (blocksIn s (recordsFrom s 0))) effects-read ∙ after-counter)))
+        (ap (λ (ks : List Block). layBlocks ks (bodyOf s .effects)) (blocks-read s read)
+        ∙ (sym (lay-taken (blocksIn s (recordsFrom s 0)) (bodyOf s .total) (bodyOf s .effects) (omega (arith, number .owned)))
+        ∙ (ap (layBlocks (blocksIn s (recordsFrom s 0))) (effects-read s read) ∙ after-counter)))
         ∙ counter-back
 
     -- so the writer answers the form's length, and the lent bytes hold the form before what stood there
