@@ -6,8 +6,9 @@ use mathlib.Core.Path.{_≡_, refl, ap, sym, _∙_}
 use Prim.Native.Nat.{ℕ, _≤_}
 use native.Mathlib.Omega.{arith}
 use lib.ListN.{length, take}
-use lib.Dec.{leb, eqb}
-use Rattle.laws.specs.Tests.{split}
+use borrow.Author.Tests.{eqb-true}
+use lib.Dec.{ltb, leb, eqb}
+use Rattle.laws.specs.Tests.{split, and-out}
 use Rattle.form.specs.declared.Counter.{Counter}
 use Rattle.form.specs.declared.Block.{Block}
 use Rattle.form.specs.declared.Effect.{Effect}
@@ -15,9 +16,9 @@ use Rattle.form.specs.declared.Body.{Body}
 use Rattle.form.specs.declared.Reading.{Reading}
 use Rattle.form.specs.declared.Verdict.{Verdict}
 use Rattle.form.specs.declared.Written.{Written}
-use Rattle.form.specs.Form.{judge, counterBytes, layBlocks, lay, sumOwn, countsFit}
-use Rattle.form.specs.Answer.{accepted, reading, written, heldAfter}
-use Rattle.form.specs.Laying.{counts-known}
+use Rattle.form.specs.declared.Written.the-variants.{Bytes, Unwritten}
+use Rattle.form.specs.Form.{when, judge, counterBytes, layBlocks, lay, sumOwn, countsFit}
+use Rattle.form.specs.Answer.{accepted, reading, asJudged, written, heldAfter}
 use Rattle.form.specs.Writing.{counts-refused}
 use Rattle.roundtrip.specs.Laid.{lay-taken}
 
@@ -51,9 +52,48 @@ pub record Same (a b : Body) : Type 0 where
   pub total : a .total ≡ b .total
   pub effects : take (a .total) (a .effects) ≡ take (b .total) (b .effects)
 
-same-counts : (a b : Body) → Same a b → countsFit a ≡ countsFit b
+-- the counts are enough to lay out: where they fit, no effect past the total is laid out
+counts-add : (body : Body) → countsFit body ≡ true → sumOwn (take (body .count) (body .blocks)) ≡ body .total
 unfolding countsFit
-same-counts a b s = λ i. fit (s .count i) (s .total i) (s .blocks i)
-  where
-    fit : ℕ → ℕ → List Block → Bool
-    fit count total blocks = (leb count 64 && leb total 256) && eqb (sumOwn blocks) total
+counts-add body h = eqb-true _ _ (and-out (leb (body .count) 64 && leb (body .total) 256) _ h .1)
+
+pub lay-counted :
+    (body : Body) → countsFit body ≡ true
+    → lay body ≡ counterBytes (body .counter) ++ layBlocks (take (body .count) (body .blocks)) (take (body .total) (body .effects))
+unfolding lay
+lay-counted body h =
+    ap (λ (l : List ℕ). counterBytes (body .counter) ++ l)
+    (sym (lay-taken (take (body .count) (body .blocks)) (body .total) (body .effects) (omega (arith, counts-add body h))))
+
+module _ (a b : Body) (s : Same a b) where
+  same-counts : countsFit a ≡ countsFit b
+  unfolding countsFit
+  same-counts = λ i. (leb (s .count i) 64 && leb (s .total i) 256) && eqb (sumOwn (s .blocks i)) (s .total i)
+
+  same-lay : countsFit a ≡ true → lay a ≡ lay b
+  same-lay h =
+      lay-counted a h
+      ∙ ((λ i. counterBytes (s .counter i) ++ layBlocks (s .blocks i) (s .effects i)) ∙ sym (lay-counted b (sym same-counts ∙ h)))
+
+  -- what is owed for one is owed for the other
+  pub same-owed : (out : List ℕ) (r : Written) (held : List ℕ) → Owed a out r held → Owed b out r held
+  same-owed out r held o = split (countsFit a) fit unfit
+    where
+      answer : Bool → List ℕ → Written
+      answer fits form =
+          when fits
+          (asJudged (judge form) (when (ltb (length out) (length form)) (Unwritten 42 (length form)) (Bytes (length form))))
+          (Unwritten 14 0)
+
+      fit : countsFit a ≡ true → Owed b out r held
+      fit h = (o .0 ∙ (λ i. answer (same-counts i) (same-lay h i)), o .1 ∙ (λ i. heldAfter r (same-lay h i) out))
+
+      unfit : countsFit a ≡ false → Owed b out r held
+      unfit h =
+          let refusal : r ≡ Unwritten 14 0 = o .0 ∙ sym (counts-refused a (length out) h) in
+          (refusal ∙ counts-refused b (length out) (sym same-counts ∙ h),
+          o .1 ∙ (ap (λ (w : Written). heldAfter w (lay a) out) refusal ∙ sym (ap (λ (w : Written). heldAfter w (lay b) out) refusal)))
+
+  pub same-body :
+      (out : List ℕ) (r q : Written) (held kept : List ℕ) → Owed a out r held → Owed b out q kept → (r ≡ q) × (held ≡ kept)
+  same-body out r q held kept o p = one-writing b out r q held kept (same-owed out r held o) p
