@@ -6,3 +6,4 @@ pub mod Laid
 pub mod Sound
 pub mod WriteBack
 pub mod Unique
+pub mod ReadBack

@@ -19,8 +19,9 @@ use Rattle.form.specs.declared.Effect.{Effect}
 use Rattle.form.specs.declared.Body.{Body}
 use Rattle.form.specs.declared.Verdict.the-variants.{Accepted}
 use Rattle.form.specs.Form.{byteAt, number4, isBlock, recordsFrom, endFault, someTarget, judgeEnds, judge, gather, ownEffects, blockAt, effectAt, blocksIn, effectsIn, zeroBlock, zeroEffect, bodyOf, sumOwn, countsFit}
+use Rattle.form.specs.Laying.{blocksCounted}
 use Rattle.roundtrip.specs.Digits.{signed-fits}
-use Rattle.roundtrip.specs.Filled.{fill-length}
+use Rattle.roundtrip.specs.Filled.{effectsCounted, fill-length}
 use Rattle.roundtrip.specs.Walk.{judged-out, no-fault, second-fails, no-target, some-before, one-more, BlockRecord, EffectRecord, Walk, finish, block, effect, Form, form, Counts, counts, blocks-after, effects-after, blocks-read, effects-read}
 
 abbrev pub blockOf : Body → ℕ → Block
@@ -60,7 +61,7 @@ pub record Sound (body : Body) : Type 0 where
   pub some-block : 0 < body .count
   pub few-blocks : body .count ≤ 64
   pub few-effects : body .total ≤ 256
-  pub add-up : sumOwn (take (body .count) (body .blocks)) ≡ body .total
+  pub add-up : sumOwn (blocksCounted body) ≡ body .total
   pub initial : SFits w32 (body .counter .initial)
   pub step : SFits w32 (body .counter .step)
   pub relation : body .counter .relation ≤ 5
@@ -210,10 +211,10 @@ module _ (s : List ℕ) (a : judge s ≡ Accepted) where
       let e′ : judgeEnds s n (0 ∷ recordsFrom s 17) 0 ≡ Accepted = rw (read .starts) at e in
       rw (read .counter .kind) at (judged-out (endFault s 0 n 0) 0 _ e′ .1)
 
-  blocks-same : take (bodyOf s .count) (bodyOf s .blocks) ≡ blocksIn s (recordsFrom s 17)
+  blocks-same : blocksCounted (bodyOf s) ≡ blocksIn s (recordsFrom s 17)
   blocks-same = blocks-read s read ∙ blocks-after s read
 
-  effects-same : take (bodyOf s .total) (bodyOf s .effects) ≡ effectsIn s (recordsFrom s 17)
+  effects-same : effectsCounted (bodyOf s) ≡ effectsIn s (recordsFrom s 17)
   effects-same = effects-read s read ∙ effects-after s read
 
   block-read : (b : ℕ) → SoundBlock (bodyOf s .count) b (blockOf (bodyOf s) b)

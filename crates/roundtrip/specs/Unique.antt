@@ -5,7 +5,7 @@ use mathlib.Core.List.{List, _++_}
 use mathlib.Core.Path.{_≡_, refl, ap, sym, _∙_}
 use Prim.Native.Nat.{ℕ, _≤_}
 use native.Mathlib.Omega.{arith}
-use lib.ListN.{length, take}
+use lib.ListN.{length}
 use borrow.Author.Tests.{eqb-true}
 use lib.Dec.{ltb, leb, eqb}
 use Rattle.laws.specs.Tests.{split, and-out}
@@ -19,7 +19,9 @@ use Rattle.form.specs.declared.Written.{Written}
 use Rattle.form.specs.declared.Written.the-variants.{Bytes, Unwritten}
 use Rattle.form.specs.Form.{when, judge, counterBytes, layBlocks, lay, sumOwn, countsFit}
 use Rattle.form.specs.Answer.{accepted, reading, asJudged, written, heldAfter}
+use Rattle.form.specs.Laying.{blocksCounted}
 use Rattle.form.specs.Writing.{counts-refused}
+use Rattle.roundtrip.specs.Filled.{effectsCounted}
 use Rattle.roundtrip.specs.Laid.{lay-taken}
 
 -- ---- one answer to each question
@@ -48,22 +50,22 @@ one-writing body out r q held kept o p =
 pub record Same (a b : Body) : Type 0 where
   pub counter : a .counter ≡ b .counter
   pub count : a .count ≡ b .count
-  pub blocks : take (a .count) (a .blocks) ≡ take (b .count) (b .blocks)
+  pub blocks : blocksCounted a ≡ blocksCounted b
   pub total : a .total ≡ b .total
-  pub effects : take (a .total) (a .effects) ≡ take (b .total) (b .effects)
+  pub effects : effectsCounted a ≡ effectsCounted b
 
 -- the counts are enough to lay out: where they fit, no effect past the total is laid out
-counts-add : (body : Body) → countsFit body ≡ true → sumOwn (take (body .count) (body .blocks)) ≡ body .total
+pub counts-add : (body : Body) → countsFit body ≡ true → sumOwn (blocksCounted body) ≡ body .total
 unfolding countsFit
 counts-add body h = eqb-true _ _ (and-out (leb (body .count) 64 && leb (body .total) 256) _ h .1)
 
 pub lay-counted :
     (body : Body) → countsFit body ≡ true
-    → lay body ≡ counterBytes (body .counter) ++ layBlocks (take (body .count) (body .blocks)) (take (body .total) (body .effects))
+    → lay body ≡ counterBytes (body .counter) ++ layBlocks (blocksCounted body) (effectsCounted body)
 unfolding lay
 lay-counted body h =
     ap (λ (l : List ℕ). counterBytes (body .counter) ++ l)
-    (sym (lay-taken (take (body .count) (body .blocks)) (body .total) (body .effects) (omega (arith, counts-add body h))))
+    (sym (lay-taken (blocksCounted body) (body .total) (body .effects) (omega (arith, counts-add body h))))
 
 module _ (a b : Body) (s : Same a b) where
   same-counts : countsFit a ≡ countsFit b
@@ -90,9 +92,10 @@ module _ (a b : Body) (s : Same a b) where
 
       unfit : countsFit a ≡ false → Owed b out r held
       unfit h =
-          let refusal : r ≡ Unwritten 14 0 = o .0 ∙ sym (counts-refused a (length out) h) in
-          (refusal ∙ counts-refused b (length out) (sym same-counts ∙ h),
-          o .1 ∙ (ap (λ (w : Written). heldAfter w (lay a) out) refusal ∙ sym (ap (λ (w : Written). heldAfter w (lay b) out) refusal)))
+          let refusal : r ≡ Unwritten 14 0 = o .0 ∙ sym (counts-refused a (length out) h) in (
+            refusal ∙ counts-refused b (length out) (sym same-counts ∙ h),
+            o .1 ∙ (ap (λ (w : Written). heldAfter w (lay a) out) refusal ∙ sym (ap (λ (w : Written). heldAfter w (lay b) out) refusal)),
+          )
 
   pub same-body :
       (out : List ℕ) (r q : Written) (held kept : List ℕ) → Owed a out r held → Owed b out q kept → (r ≡ q) × (held ≡ kept)

@@ -8,7 +8,7 @@ use native.Mathlib.Nat.{zero-add, add-zero, suc-add}
 use native.Mathlib.Omega.{arith}
 use borrow.Author.Tests.{ltb-true, ltb-false, leb-false, eqb-true, eqb-false, not-false, lt-ltb, eq-eqb}
 use lib.Dec.{ltb, leb, eqb, lit<, lit≤}
-use lib.ListN.{length, take}
+use lib.ListN.{length}
 use Rattle.laws.specs.Tests.{split, clash, or-no}
 use Rattle.form.specs.declared.Block.{Block}
 use Rattle.form.specs.declared.Effect.{Effect}
@@ -16,8 +16,9 @@ use Rattle.form.specs.declared.Verdict.{Verdict}
 use Rattle.form.specs.declared.Verdict.the-variants.{Accepted, Refused}
 use Rattle.form.specs.Form.{when, byteAt, number4, lengthAt, kindAt, isCounter, isBlock, isEffect, recordLength, recordsFrom, stray, someTarget, badCounter, badWays, badBlock, badEffect, badField, badTarget, outOfPlace, overLimit, payloadFault, recordFault, oneIf, judged, judgeEnds, judgeRecords, judge, gather, ownEffects, blocksIn, effectsIn, zeroBlock, zeroEffect, bodyOf, sumOwn}
 use Rattle.form.specs.Answer.{accepted}
+use Rattle.form.specs.Laying.{blocksCounted}
 use Rattle.form.specs.Records.{next, records-end, records-step, rest-leave, rest-pass, end-none}
-use Rattle.roundtrip.specs.Filled.{take-fill}
+use Rattle.roundtrip.specs.Filled.{effectsCounted, take-fill}
 
 pub refused : {number place : ℕ} → Refused number place ≡ Accepted → ⊥
 refused e = clash (ap accepted e) refl
@@ -394,8 +395,8 @@ counts s f = rw (blocks-after s f, effects-after s f) after
 
 -- and the body holds them, up to its counts
 module _ (s : List ℕ) (f : Form s) where
-  pub blocks-read : take (bodyOf s .count) (bodyOf s .blocks) ≡ blocksIn s (recordsFrom s 0)
+  pub blocks-read : blocksCounted (bodyOf s) ≡ blocksIn s (recordsFrom s 0)
   blocks-read = take-fill zeroBlock 64 (blocksIn s (recordsFrom s 0)) (counts s f .few-blocks)
 
-  pub effects-read : take (bodyOf s .total) (bodyOf s .effects) ≡ effectsIn s (recordsFrom s 0)
+  pub effects-read : effectsCounted (bodyOf s) ≡ effectsIn s (recordsFrom s 0)
   effects-read = take-fill zeroEffect 256 (effectsIn s (recordsFrom s 0)) (counts s f .few-effects)
