@@ -1,23 +1,19 @@
 -- Numbers and their bytes: the digits of a number in base 256 are the bytes it was read from, and the number read from its digits is that number; a signed
 -- number is 32 bits and back. And reading a record at a place is reading what is left from there on. Rests on Form.
 use mathlib.Core.Bool.{Bool, true, false}
-use mathlib.Core.List.{List, [], _∷_}
+use mathlib.Core.List.{List, _∷_}
 use mathlib.Core.Path.{_≡_, refl, ap, sym, _∙_}
 use Prim.Native.Nat.{ℕ, zero, suc, _+_, _-_, _*_, _/_, _%_, _<_, _≤_, _^_}
 use native.Mathlib.Nat.{zero-add, add-assoc, add-zero, div-div-eq-div-mul}
 use native.Mathlib.Omega.{arith}
 use borrow.Author.Tests.{ltb-true, ltb-false}
-use lib.Dec.{ltb}
-use lib.IntN.{ℤ, pos, negsuc}
-use lib.ListN.{length, getD, drop}
+use lib.Dec.{ltb, lit<}
+use lib.IntN.{pos, negsuc}
+use lib.ListN.{length, drop}
 use lib.Seq.{drop-cons, getD-drop}
-use mir.Facts.{toZ-ofZ, ofZ-toZ}
 use mir.Syntax.{w32}
-use mir.Val.{Fits, SFits, toZ, ofZ, sel}
-use Rattle.form.specs.declared.Counter.{Counter}
-use Rattle.form.specs.declared.Block.{Block}
-use Rattle.form.specs.declared.Effect.{Effect}
-use Rattle.form.specs.Form.{byteAt, number2, number4, signed4, counterAt, blockAt, effectAt, bytes2, bytes4}
+use mir.Val.{Fits, SFits, toZ, sel}
+use Rattle.form.specs.Form.{byteAt, number2, number4, signed4, blockAt, effectAt, bytes2, bytes4}
 
 -- Every entry is a byte; past the end stands 0, which is one
 abbrev pub OfBytes : List ℕ → Type 0
@@ -130,6 +126,9 @@ digits4 n h =
     digits n (n / 256) (n / 65536) (n / 16777216) refl (sym (div-div-eq-div-mul n 256 256)) (sym (div-div-eq-div-mul n 65536 256)) (omega arith)
 
 -- ---- signed numbers
+
+pub zero-fits : SFits w32 (pos 0)
+zero-fits = record { sfits = lit< tt }
 
 -- whatever is read is a number of 32 bits
 pub signed-fits : (n : ℕ) → SFits w32 (toZ w32 n)

@@ -1,6 +1,6 @@
 -- Bytes laid out record by record: the one relation between bytes on one side and blocks and effects on the other, which laying out makes and reading
 -- undoes. Rests on Form.
-use mathlib.Core.List.{List, [], _∷_, _++_, append-assoc}
+use mathlib.Core.List.{List, [], _∷_, _++_}
 use mathlib.Core.Path.{_≡_, refl, ap, sym, subst, _∙_}
 use Prim.Native.Nat.{ℕ, zero, suc, _+_, _-_, _≤_}
 use native.Mathlib.Nat.{zero-add, suc-add}

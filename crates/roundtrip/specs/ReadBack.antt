@@ -1,34 +1,32 @@
 -- What is written reads back the same, up to the counts: the body read from the bytes that a body is laid out as is that body with zeros past its counts.
 -- It holds of every body whose fields fit their types and whose counts fit, accepted or not. Rests on Laid, Digits and Unique (bodies that are the same).
-use mathlib.Core.Bool.{Bool, true, false}
+use mathlib.Core.Bool.{true}
 use mathlib.Core.List.{List, [], _∷_, _++_}
 use mathlib.Core.Path.{_≡_, refl, ap, sym, subst, _∙_}
-use Prim.Native.Nat.{ℕ, zero, suc, _+_, _-_, _*_, _/_, _%_, _<_, _≤_, _^_}
-use native.Mathlib.Nat.{add-zero}
+use Prim.Native.Nat.{ℕ, zero, suc, _+_, _*_, _/_, _%_, _<_, _≤_, _^_}
 use native.Mathlib.Omega.{arith}
 use lib.Dec.{lit<}
-use lib.IntN.{ℤ, pos}
-use lib.ListN.{length, getD, take, drop, length-take, length-drop, length-append}
+use lib.IntN.{ℤ}
+use lib.ListN.{length, getD, take, drop, length-drop}
 use lib.Seq.{drop-drop, length-take-le}
 use mir.Facts.{toZ-ofZ}
 use mir.Syntax.{w32}
-use mir.Val.{Fits, SFits, toZ, ofZ}
+use mir.Val.{SFits, toZ, ofZ}
 use mir.ValLaws.{ofZ-fits}
 use Rattle.form.specs.declared.Counter.{Counter}
 use Rattle.form.specs.declared.Block.{Block}
 use Rattle.form.specs.declared.Effect.{Effect}
 use Rattle.form.specs.declared.Body.{Body}
-use Rattle.form.specs.declared.Reading.{Reading}
 use Rattle.form.specs.declared.Verdict.the-variants.{Accepted}
-use Rattle.form.specs.Form.{byteAt, number4, signed4, number2, kindAt, isBlock, isEffect, recordLength, recordsFrom, gather, ownEffects, counterAt, blockAt, effectAt, blocksIn, effectsIn, zeroBlock, zeroEffect, fill, bodyWith, bodyOf, upToCounts, bytes4, counterBytes, blockBytes, effectBytes, layEffects, layBlocks, lay, sumOwn, countsFit, judge}
+use Rattle.form.specs.Form.{kindAt, recordLength, recordsFrom, gather, ownEffects, counterAt, blockAt, effectAt, blocksIn, effectsIn, zeroBlock, zeroEffect, bodyWith, bodyOf, upToCounts, counterBytes, blockBytes, effectBytes, layBlocks, lay, countsFit, judge}
 use Rattle.form.specs.Answer.{reading}
 use Rattle.form.specs.Laying.{blocksCounted, counts-known}
-use Rattle.form.specs.Records.{next, records-end, records-step}
-use Rattle.roundtrip.specs.Digits.{left-number2, left-block, left-effect, digits4}
-use Rattle.roundtrip.specs.Filled.{effectsCounted, take-fill}
-use Rattle.roundtrip.specs.Walk.{next-is}
+use Rattle.form.specs.Records.{records-end, records-step}
+use Rattle.roundtrip.specs.Digits.{OfBytes, zero-fits, left-number2, left-block, left-effect, digits4}
+use Rattle.roundtrip.specs.Filled.{effectsCounted}
+use Rattle.roundtrip.specs.Acceptance.{next-is}
 use Rattle.roundtrip.specs.Laid.{Laid, none, block, effect, lays}
-use Rattle.roundtrip.specs.Unique.{Same, counts-add, lay-counted}
+use Rattle.roundtrip.specs.Unique.{counts-add, lay-counted}
 
 -- ---- fields that fit their types
 
@@ -160,6 +158,38 @@ module _ (s : List ℕ) where
   read-back (block {t = t} {ks = ks} {es = es} k l) hk he at d =
       block-step at ks es k t (hk 0) d (read-back l (λ i. hk (suc i)) he (at + 17) (sym (drop-drop 17 at s) ∙ ap (drop 17) d))
 
+-- ---- what is laid out is bytes
+
+-- every entry of a list is a byte, front first
+abbrev Each : List ℕ → Type 0
+Each [] = Unit {0}
+Each (x ∷ l) = (x < 256) × Each l
+
+each-append : (l m : List ℕ) → Each l → Each m → Each (l ++ m)
+each-append [] m h k = k
+each-append (x ∷ l) m h k = (h .0, each-append l m (h .1) k)
+
+each-byte : (l : List ℕ) → Each l → OfBytes l
+each-byte [] h i = lit< tt
+each-byte (x ∷ l) h zero = h .0
+each-byte (x ∷ l) h (suc i) = each-byte l (h .1) i
+
+counter-each : (c : Counter) → HeldCounter c → Each (counterBytes c)
+counter-each c h = omega arith
+
+block-each : (k : Block) → HeldBlock k → Each (blockBytes k)
+block-each k h = omega arith
+
+effect-each : (e : Effect) → HeldEffect e → Each (effectBytes e)
+effect-each e h = omega arith
+
+laid-each :
+    {t : List ℕ} {own : ℕ} {ks : List Block} {es : List Effect} → Laid t own ks es → ((i : ℕ) → HeldBlock (getD ks i zeroBlock))
+    → ((i : ℕ) → HeldEffect (getD es i zeroEffect)) → Each t
+laid-each none hk he = tt
+laid-each (effect {t = t} e l) hk he = each-append (effectBytes e) t (effect-each e (he 0)) (laid-each l hk (λ i. he (suc i)))
+laid-each (block {t = t} k l) hk he = each-append (blockBytes k) t (block-each k (hk 0)) (laid-each l (λ i. hk (suc i)) he)
+
 -- ---- the theorem
 
 -- what holds of every entry holds of every entry up to a count
@@ -168,9 +198,6 @@ taken P z p zero l h i = p
 taken P z p (suc n) [] h i = p
 taken P z p (suc n) (x ∷ l) h zero = h zero
 taken P z p (suc n) (x ∷ l) h (suc i) = taken P z p n l (λ j. h (suc j)) i
-
-zero-fits : SFits w32 (pos 0)
-zero-fits = record { sfits = lit< tt }
 
 zero-block : HeldBlock zeroBlock
 zero-block = record {
@@ -194,10 +221,14 @@ module _ (body : Body) (h : Held body) (fit : countsFit body ≡ true) where
       Laid (layBlocks (blocksCounted body) (effectsCounted body)) 0 (blocksCounted body) (effectsCounted body)
   laid = lays _ _ (counts-add body fit ∙ sym (length-take-le (body .total) (body .effects) few-effects))
 
+  blocks-held : (i : ℕ) → HeldBlock (getD (blocksCounted body) i zeroBlock)
+  blocks-held = taken HeldBlock zeroBlock zero-block (body .count) (body .blocks) (h .blocks)
+
+  effects-held : (i : ℕ) → HeldEffect (getD (effectsCounted body) i zeroEffect)
+  effects-held = taken HeldEffect zeroEffect zero-effect (body .total) (body .effects) (h .effects)
+
   after : ReadAs (lay body) 17 0 (blocksCounted body) (effectsCounted body)
-  after =
-      read-back (lay body) laid (taken HeldBlock zeroBlock zero-block (body .count) (body .blocks) (h .blocks))
-      (taken HeldEffect zeroEffect zero-effect (body .total) (body .effects) (h .effects)) 17 (ap (drop 17) (lay-counted body fit))
+  after = read-back (lay body) laid blocks-held effects-held 17 (ap (drop 17) (lay-counted body fit))
 
   first-kind : kindAt (lay body) 0 ≡ 1
   first-kind = ap (λ (l : List ℕ). kindAt l 0) (lay-counted body fit)
@@ -224,3 +255,11 @@ module _ (body : Body) (h : Held body) (fit : countsFit body ≡ true) where
   -- so the reader answers it, where it accepts what is written
   pub reading-back : judge (lay body) ≡ Accepted → reading (lay body) ≡ record { verdict = Accepted; body = upToCounts body }
   reading-back a = rw (a, body-back)
+
+  -- and what is laid out is bytes
+  pub lay-bytes : OfBytes (lay body)
+  lay-bytes =
+      let rest = layBlocks (blocksCounted body) (effectsCounted body) in
+      subst OfBytes (sym (lay-counted body fit))
+      (each-byte (counterBytes (body .counter) ++ rest)
+      (each-append (counterBytes (body .counter)) rest (counter-each (body .counter) (h .counter)) (laid-each laid blocks-held effects-held)))

@@ -1,12 +1,12 @@
 -- What the layers above may count on in the body of an accepted form, one fact for each rule of document 01 that the reader sees to. Blocks and effects are
--- taken up to their counts; past them stand zeros, for which every fact holds too, so none asks for a place below the count. Rests on Form; the proof on Walk.
-use mathlib.Core.Bool.{Bool, true, false, not, _||_, _&&_}
-use mathlib.Core.List.{List, [], _∷_}
+-- taken up to their counts; past them stand zeros, for which every fact holds too, so none asks for a place below the count. Rests on Form; the proof on Acceptance.
+use mathlib.Core.Bool.{Bool, true, _||_, _&&_}
+use mathlib.Core.List.{List, _∷_}
 use mathlib.Core.Path.{_≡_, refl, ap, sym, subst, _∙_}
 use Prim.Native.Nat.{ℕ, zero, suc, _+_, _<_, _≤_}
 use native.Mathlib.Nat.{zero-add, add-zero}
 use native.Mathlib.Omega.{arith}
-use borrow.Author.Tests.{leb-false, eqb-false, ltb-false, lt-ltb, le-leb, eq-eqb}
+use borrow.Author.Tests.{leb-false, ltb-false, lt-ltb, le-leb, eq-eqb}
 use lib.Dec.{ltb, leb, eqb, lit<, lit≤}
 use lib.IntN.{pos}
 use lib.ListN.{length, getD, take}
@@ -20,9 +20,9 @@ use Rattle.form.specs.declared.Body.{Body}
 use Rattle.form.specs.declared.Verdict.the-variants.{Accepted}
 use Rattle.form.specs.Form.{byteAt, number4, isBlock, recordsFrom, endFault, someTarget, judgeEnds, judge, gather, ownEffects, blockAt, effectAt, blocksIn, effectsIn, zeroBlock, zeroEffect, bodyOf, sumOwn, countsFit}
 use Rattle.form.specs.Laying.{blocksCounted}
-use Rattle.roundtrip.specs.Digits.{signed-fits}
+use Rattle.roundtrip.specs.Digits.{zero-fits, signed-fits}
 use Rattle.roundtrip.specs.Filled.{effectsCounted, fill-length}
-use Rattle.roundtrip.specs.Walk.{judged-out, no-fault, second-fails, no-target, some-before, one-more, BlockRecord, EffectRecord, Walk, finish, block, effect, Form, form, Counts, counts, blocks-after, effects-after, blocks-read, effects-read}
+use Rattle.roundtrip.specs.Acceptance.{judged-out, no-fault, second-fails, no-target, some-before, one-more, BlockRecord, EffectRecord, Passing, finish, block, effect, AcceptedForm, accepted-form, Counts, counts, blocks-after, effects-after, blocks-read, effects-read}
 
 abbrev pub blockOf : Body → ℕ → Block
 blockOf body b = getD (take (body .count) (body .blocks)) b zeroBlock
@@ -83,9 +83,6 @@ pub effect-at : (body : Body) (i : ℕ) → i < body .total → getD (body .effe
 effect-at body i h = sym (getD-take (body .total) (body .effects) i zeroEffect h)
 
 -- ---- the proof: one record
-
-zero-fits : SFits w32 (pos 0)
-zero-fits = record { sfits = lit< tt }
 
 -- past the last block
 past : (n b : ℕ) → n ≤ b → SoundBlock n b zeroBlock
@@ -158,7 +155,7 @@ module _ (s : List ℕ) where
         no-constant = λ u. ap (toZ w32) (f .no-constant u);
       }
 
--- ---- along the walk
+-- ---- record by record
 
 -- the block at hand is number b, and those after it follow
 here-or-later :
@@ -173,7 +170,7 @@ first-or-later es h l (suc i) = l i
 
 module _ (s : List ℕ) where
   blocks-sound :
-      {at b e : ℕ} {records : List ℕ} → Walk s at b e records → (n : ℕ) → n ≡ b + length (blocksIn s records) → judgeEnds s n records b ≡ Accepted
+      {at b e : ℕ} {records : List ℕ} → Passing s at b e records → (n : ℕ) → n ≡ b + length (blocksIn s records) → judgeEnds s n records b ≡ Accepted
       → (i : ℕ) → SoundBlock n (b + i) (getD (blocksIn s records) i zeroBlock)
   unfolding gather judgeEnds
   blocks-sound (finish {b = b} l ended) n c a i = past n (b + i) (omega arith)
@@ -189,7 +186,7 @@ module _ (s : List ℕ) where
       let a′ : judgeEnds s n rest (b + 0) ≡ Accepted = rw (f .kind) at more in
       rw (f .kind) (blocks-sound w n c′ (subst (λ (m : ℕ). judgeEnds s n rest m ≡ Accepted) (add-zero b) a′) i)
 
-  effects-sound : {at b e : ℕ} {records : List ℕ} → Walk s at b e records → (i : ℕ) → SoundEffect (getD (effectsIn s records) i zeroEffect)
+  effects-sound : {at b e : ℕ} {records : List ℕ} → Passing s at b e records → (i : ℕ) → SoundEffect (getD (effectsIn s records) i zeroEffect)
   unfolding gather
   effects-sound (finish l ended) i = record { variable = lit≤ tt; how = lit≤ tt; constant = zero-fits; no-constant = λ u. refl }
   effects-sound (block k w) i = rw (k .kind) (effects-sound w i)
@@ -198,8 +195,8 @@ module _ (s : List ℕ) where
 -- ---- the theorem
 
 module _ (s : List ℕ) (a : judge s ≡ Accepted) where
-  read : Form s
-  read = form s a
+  read : AcceptedForm s
+  read = accepted-form s a
 
   number : Counts s (blocksIn s (recordsFrom s 0)) (effectsIn s (recordsFrom s 0))
   number = counts s read
@@ -222,10 +219,10 @@ module _ (s : List ℕ) (a : judge s ≡ Accepted) where
       let n = bodyOf s .count in
       let all : n ≡ 0 + length (blocksIn s (recordsFrom s 17)) = ap length (blocks-after s read) ∙ sym (zero-add _) in
       subst (λ (p : ℕ × List Block). SoundBlock n (p .0) (getD (p .1) b zeroBlock)) (λ i. (zero-add b i, sym blocks-same i))
-      (blocks-sound s (read .walk) n all (ends-after n (number .ended .ends)) b)
+      (blocks-sound s (read .passing) n all (ends-after n (number .ended .ends)) b)
 
   effect-read : (i : ℕ) → SoundEffect (effectOf (bodyOf s) i)
-  effect-read i = subst (λ (es : List Effect). SoundEffect (getD es i zeroEffect)) (sym effects-same) (effects-sound s (read .walk) i)
+  effect-read i = subst (λ (es : List Effect). SoundEffect (getD es i zeroEffect)) (sym effects-same) (effects-sound s (read .passing) i)
 
   pub sound : Sound (bodyOf s)
   sound =

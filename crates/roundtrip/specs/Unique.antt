@@ -2,16 +2,13 @@
 -- are the same up to their counts get the same answer and bytes from the writer. Rests on Form, Answer and Laid.
 use mathlib.Core.Bool.{Bool, true, false, _&&_}
 use mathlib.Core.List.{List, _++_}
-use mathlib.Core.Path.{_≡_, refl, ap, sym, _∙_}
-use Prim.Native.Nat.{ℕ, _≤_}
+use mathlib.Core.Path.{_≡_, ap, sym, _∙_}
+use Prim.Native.Nat.{ℕ}
 use native.Mathlib.Omega.{arith}
 use lib.ListN.{length}
 use borrow.Author.Tests.{eqb-true}
 use lib.Dec.{ltb, leb, eqb}
 use Rattle.laws.specs.Tests.{split, and-out}
-use Rattle.form.specs.declared.Counter.{Counter}
-use Rattle.form.specs.declared.Block.{Block}
-use Rattle.form.specs.declared.Effect.{Effect}
 use Rattle.form.specs.declared.Body.{Body}
 use Rattle.form.specs.declared.Reading.{Reading}
 use Rattle.form.specs.declared.Verdict.{Verdict}

@@ -1,28 +1,21 @@
--- What is read writes back the same bytes: for an accepted form the writer lays its body out as that form, and its counts fit. Rests on Walk (what
+-- What is read writes back the same bytes: for an accepted form the writer lays its body out as that form, and its counts fit. Rests on Acceptance (what
 -- acceptance says), Digits (each record's bytes come back) and Laid.
-use mathlib.Core.Bool.{Bool, true, false, _&&_}
-use mathlib.Core.List.{List, [], _∷_, _++_}
+use mathlib.Core.Bool.{true}
+use mathlib.Core.List.{List, _∷_, _++_}
 use mathlib.Core.Path.{_≡_, refl, ap, sym, subst, _∙_}
-use Prim.Native.Nat.{ℕ, zero, suc, _+_, _<_, _≤_}
-use native.Mathlib.Nat.{add-zero}
+use Prim.Native.Nat.{ℕ, _+_, _≤_}
 use native.Mathlib.Omega.{arith}
-use borrow.Author.Tests.{le-leb, le-ltb, eq-eqb}
-use lib.Dec.{lit≤}
-use lib.ListN.{length, take, drop, length-drop}
+use lib.ListN.{length, drop, length-drop}
 use lib.Seq.{drop-length, drop-drop}
 use mir.Facts.{ofZ-toZ}
-use mir.Syntax.{w32}
-use mir.Val.{ofZ}
-use Rattle.form.specs.declared.Counter.{Counter}
 use Rattle.form.specs.declared.Block.{Block}
-use Rattle.form.specs.declared.Effect.{Effect}
 use Rattle.form.specs.declared.Verdict.the-variants.{Accepted}
 use Rattle.form.specs.declared.Written.the-variants.{Bytes}
-use Rattle.form.specs.Form.{byteAt, number4, signed4, lengthAt, kindAt, isBlock, isEffect, recordsFrom, gather, ownEffects, counterAt, blockAt, effectAt, blocksIn, effectsIn, zeroBlock, zeroEffect, fill, bodyOf, counterBytes, blockBytes, effectBytes, layEffects, layBlocks, lay, sumOwn, countsFit, judge}
+use Rattle.form.specs.Form.{byteAt, lengthAt, kindAt, recordsFrom, gather, ownEffects, counterAt, blockAt, effectAt, blocksIn, effectsIn, bodyOf, counterBytes, blockBytes, effectBytes, layBlocks, lay, countsFit, judge}
 use Rattle.form.specs.Answer.{written, heldAfter}
 use Rattle.form.specs.Writing.{room-enough}
 use Rattle.roundtrip.specs.Digits.{OfBytes, left-bytes, left-length, left-number2, left-block, left-effect, spread, spread-all, two, four, fits4}
-use Rattle.roundtrip.specs.Walk.{BlockRecord, EffectRecord, Walk, finish, block, effect, Form, form, Counts, counts, blocks-after, effects-after, blocks-read, effects-read}
+use Rattle.roundtrip.specs.Acceptance.{BlockRecord, EffectRecord, Passing, finish, block, effect, AcceptedForm, accepted-form, Counts, counts, blocks-after, effects-after, blocks-read, effects-read}
 use Rattle.roundtrip.specs.Sound.{sound, sound-counts}
 use Rattle.roundtrip.specs.Laid.{Laid, laid-as, none, block as laid-block, effect as laid-effect, laid-from-start, lay-taken}
 
@@ -68,7 +61,7 @@ module _ (s : List ℕ) (h : OfBytes s) where
       ∙ effect-again (drop at s) (left-bytes s at h) (sym (left-length s at) ∙ f .size) (sym (left-number2 s at 2) ∙ f .kind) (whole at 10 (f .room))
 
   -- what is left of a form is laid out from what is read of it
-  read-laid : {at b e : ℕ} {records : List ℕ} → Walk s at b e records → Laid (drop at s) (ownEffects s records) (blocksIn s records) (effectsIn s records)
+  read-laid : {at b e : ℕ} {records : List ℕ} → Passing s at b e records → Laid (drop at s) (ownEffects s records) (blocksIn s records) (effectsIn s records)
   unfolding gather ownEffects
   read-laid (finish l ended) = rw l (rw (drop-length s) none)
   read-laid (block {at = at} {b = b} {rest = rest} k w) =
@@ -79,8 +72,8 @@ module _ (s : List ℕ) (h : OfBytes s) where
 -- ---- the theorem
 
 module _ (s : List ℕ) (a : judge s ≡ Accepted) where
-  read : Form s
-  read = form s a
+  read : AcceptedForm s
+  read = accepted-form s a
 
   number : Counts s (blocksIn s (recordsFrom s 0)) (effectsIn s (recordsFrom s 0))
   number = counts s read
@@ -93,7 +86,7 @@ module _ (s : List ℕ) (a : judge s ≡ Accepted) where
   module _ (h : OfBytes s) where
     after-counter : layBlocks (blocksIn s (recordsFrom s 0)) (effectsIn s (recordsFrom s 0)) ≡ drop 17 s
     after-counter =
-        (λ i. layBlocks (blocks-after s read i) (effects-after s read i)) ∙ laid-from-start (read-laid s h (read .walk)) (number .none-early)
+        (λ i. layBlocks (blocks-after s read i) (effects-after s read i)) ∙ laid-from-start (read-laid s h (read .passing)) (number .none-early)
 
     counter-back : counterBytes (counterAt s 0) ++ drop 17 s ≡ s
     counter-back = counter-again s h (read .counter .size) (read .counter .kind) (read .counter .room)

@@ -1,12 +1,12 @@
 -- What acceptance says, record by record: an accepted form is a counter, and then blocks and effects up to its end, each whole, of its kind's length, within
--- the limits and with every field in range. Proofs above go by recursion over this walk. Rests on Form and its Records.
+-- the limits and with every field in range. Proofs above go by recursion over these records (Passing). Rests on Form, its Records and Filled.
 use mathlib.Core.Bool.{Bool, true, false, not, _||_, _&&_, and-true}
 use mathlib.Core.List.{List, [], _∷_}
 use mathlib.Core.Path.{_≡_, refl, ap, sym, subst, _∙_}
 use Prim.Native.Nat.{ℕ, zero, suc, _+_, _-_, _<_, _≤_}
 use native.Mathlib.Nat.{zero-add, add-zero, suc-add}
 use native.Mathlib.Omega.{arith}
-use borrow.Author.Tests.{ltb-true, ltb-false, leb-false, eqb-true, eqb-false, not-false, lt-ltb, eq-eqb}
+use borrow.Author.Tests.{ltb-true, ltb-false, leb-false, eqb-true, eqb-false, not-false, lt-ltb}
 use lib.Dec.{ltb, leb, eqb, lit<, lit≤}
 use lib.ListN.{length}
 use Rattle.laws.specs.Tests.{split, clash, or-no}
@@ -14,7 +14,7 @@ use Rattle.form.specs.declared.Block.{Block}
 use Rattle.form.specs.declared.Effect.{Effect}
 use Rattle.form.specs.declared.Verdict.{Verdict}
 use Rattle.form.specs.declared.Verdict.the-variants.{Accepted, Refused}
-use Rattle.form.specs.Form.{when, byteAt, number4, lengthAt, kindAt, isCounter, isBlock, isEffect, recordLength, recordsFrom, stray, someTarget, badCounter, badWays, badBlock, badEffect, badField, badTarget, outOfPlace, overLimit, payloadFault, recordFault, oneIf, judged, judgeEnds, judgeRecords, judge, gather, ownEffects, blocksIn, effectsIn, zeroBlock, zeroEffect, bodyOf, sumOwn}
+use Rattle.form.specs.Form.{when, byteAt, number4, lengthAt, kindAt, isCounter, isBlock, isEffect, recordLength, recordsFrom, stray, someTarget, badCounter, badBlock, badEffect, badField, badTarget, outOfPlace, overLimit, payloadFault, recordFault, oneIf, judged, judgeEnds, judgeRecords, judge, gather, ownEffects, blocksIn, effectsIn, zeroBlock, zeroEffect, bodyOf, sumOwn}
 use Rattle.form.specs.Answer.{accepted}
 use Rattle.form.specs.Laying.{blocksCounted}
 use Rattle.form.specs.Records.{next, records-end, records-step, rest-leave, rest-pass, end-none}
@@ -217,7 +217,7 @@ pub counter-first : (s : List ℕ) → 0 < length s → Passed s 0 0 0 → Count
 unfolding outOfPlace
 counter-first s h p = as-counter s 0 0 0 h p (eqb-true _ _ (not-false _ (or-no (not (isCounter s 0)) _ (p .inPlace) .0)))
 
--- ---- the walk
+-- ---- the records of a form, one after another
 
 -- at the end: some block, and judging block by block found none at fault
 pub record Ended (s : List ℕ) (b : ℕ) : Type 0 where
@@ -225,15 +225,15 @@ pub record Ended (s : List ℕ) (b : ℕ) : Type 0 where
   pub ends : judgeEnds s b (recordsFrom s 0) 0 ≡ Accepted
 
 -- from place `at` on, with b blocks and e effects before it
-pub data Walk (s : List ℕ) : ℕ → ℕ → ℕ → List ℕ → Type 0 where
-  finish : {at b e : ℕ} → at ≡ length s → Ended s b → Walk s at b e []
-  block : {at b e : ℕ} {rest : List ℕ} → BlockRecord s at b → Walk s (at + 17) (b + 1) e rest → Walk s at b e (at ∷ rest)
-  effect : {at b e : ℕ} {rest : List ℕ} → EffectRecord s at b e → Walk s (at + 10) b (e + 1) rest → Walk s at b e (at ∷ rest)
+pub data Passing (s : List ℕ) : ℕ → ℕ → ℕ → List ℕ → Type 0 where
+  finish : {at b e : ℕ} → at ≡ length s → Ended s b → Passing s at b e []
+  block : {at b e : ℕ} {rest : List ℕ} → BlockRecord s at b → Passing s (at + 17) (b + 1) e rest → Passing s at b e (at ∷ rest)
+  effect : {at b e : ℕ} {rest : List ℕ} → EffectRecord s at b e → Passing s (at + 10) b (e + 1) rest → Passing s at b e (at ∷ rest)
 
-pub record Form (s : List ℕ) : Type 0 where
+pub record AcceptedForm (s : List ℕ) : Type 0 where
   pub counter : CounterRecord s 0
   pub starts : recordsFrom s 0 ≡ 0 ∷ recordsFrom s 17
-  pub walk : Walk s 17 0 0 (recordsFrom s 17)
+  pub passing : Passing s 17 0 0 (recordsFrom s 17)
 
 -- a record of an accepted form has no fault, and the records after it are accepted
 goes-on :
@@ -245,9 +245,9 @@ goes-on s at b e h a =
     (λ t. (passed s at b e (eqb-true _ _ t), rest-pass s at h b e Accepted (eqb-true _ _ t) a))
     (λ t. absurd (refused (rest-leave s at h b e Accepted (eqb-false _ _ t) a)))
 
--- what is asked of the walk from the next record on
+-- what is asked of the records from a place on
 abbrev From : List ℕ → ℕ → ℕ → ℕ → Type 0
-From s at b e = at ≤ length s → 0 < at → judgeRecords s (recordsFrom s at) b e ≡ Accepted → Walk s at b e (recordsFrom s at)
+From s at b e = at ≤ length s → 0 < at → judgeRecords s (recordsFrom s at) b e ≡ Accepted → Passing s at b e (recordsFrom s at)
 
 module _ (s : List ℕ) where
   -- the place after a record of a known kind
@@ -261,11 +261,11 @@ module _ (s : List ℕ) where
   moved at b e kind size n k a =
       sym (λ i. judgeRecords s (recordsFrom s (n i)) (b + oneIf (eqb (k i) 2)) (e + oneIf (eqb (k i) 3))) ∙ a
 
-  -- one record, and the walk from the next on
+  -- one record, and those from the next on
   step :
       (at b e : ℕ) → at < length s → 0 < at → RecordAt s at b e
       → judgeRecords s (recordsFrom s (next s at)) (b + oneIf (isBlock s at)) (e + oneIf (isEffect s at)) ≡ Accepted
-      → ((at′ b′ e′ : ℕ) → at < at′ → From s at′ b′ e′) → Walk s at b e (recordsFrom s at)
+      → ((at′ b′ e′ : ℕ) → at < at′ → From s at′ b′ e′) → Passing s at b e (recordsFrom s at)
   unfolding recordLength
   step at b e h later (counter c) a ih = absurd (omega (arith, c .first))
   step at b e h later (block k) a ih =
@@ -293,19 +293,19 @@ module _ (s : List ℕ) where
       let e : at ≡ length s = omega arith in
       rw none (finish e (ended b _ (rw none at a)))
 
-  walked : (most at b e : ℕ) → length s ≤ at + most → From s at b e
-  walked zero at b e m h later a = stop at b e (omega arith) h later a
-  walked (suc most) at b e m h later a =
+  all-pass : (most at b e : ℕ) → length s ≤ at + most → From s at b e
+  all-pass zero at b e m h later a = stop at b e (omega arith) h later a
+  all-pass (suc most) at b e m h later a =
       split (ltb at (length s))
       (λ t.
       let l = ltb-true at (length s) t in
       let (p, a′) = goes-on s at b e l a in
-      step at b e l later (record-at s at b e l p later) a′ (λ at′ b′ e′ g. walked most at′ b′ e′ (omega arith)))
+      step at b e l later (record-at s at b e l p later) a′ (λ at′ b′ e′ g. all-pass most at′ b′ e′ (omega arith)))
       (λ t. stop at b e (ltb-false at (length s) t) h later a)
 
-pub form : (s : List ℕ) → judge s ≡ Accepted → Form s
+pub accepted-form : (s : List ℕ) → judge s ≡ Accepted → AcceptedForm s
 unfolding judge recordLength
-form s a =
+accepted-form s a =
     split (ltb 0 (length s))
     (λ t.
     let l = ltb-true 0 (length s) t in
@@ -315,27 +315,27 @@ form s a =
     record {
       counter = c;
       starts = records-step s 0 l ∙ ap (λ (m : ℕ). 0 ∷ recordsFrom s m) n;
-      walk = walked s (length s) 17 0 0 (omega arith) (c .room) (lit< tt) (moved s 0 0 0 1 17 n (c .kind) a′);
+      passing = all-pass s (length s) 17 0 0 (omega arith) (c .room) (lit< tt) (moved s 0 0 0 1 17 n (c .kind) a′);
     })
     (λ t. absurd (refused (sym (end-none s 0 0 refl) ∙ rw (records-end s 0 (ltb-false 0 (length s) t)) at a)))
 
--- ---- what is gathered along the walk
+-- ---- what is gathered along the records
 
 module _ (s : List ℕ) where
   -- the blocks are those that were counted, and they ended well
-  pub all-blocks : {at b e : ℕ} {records : List ℕ} → Walk s at b e records → Ended s (b + length (blocksIn s records))
+  pub all-blocks : {at b e : ℕ} {records : List ℕ} → Passing s at b e records → Ended s (b + length (blocksIn s records))
   unfolding gather
   all-blocks (finish {b = b} l ended) = rw (add-zero b) ended
   all-blocks (block {b = b} {rest = rest} k w) = rw (k .kind) (subst (Ended s) (one-more b (length (blocksIn s rest))) (all-blocks w))
   all-blocks (effect f w) = rw (f .kind) (all-blocks w)
 
-  pub few-blocks : {at b e : ℕ} {records : List ℕ} → Walk s at b e records → b ≤ 64 → b + length (blocksIn s records) ≤ 64
+  pub few-blocks : {at b e : ℕ} {records : List ℕ} → Passing s at b e records → b ≤ 64 → b + length (blocksIn s records) ≤ 64
   unfolding gather
   few-blocks (finish {b = b} l ended) h = rw (add-zero b) h
   few-blocks (block {b = b} {rest = rest} k w) h = rw (k .kind, ← (one-more b (length (blocksIn s rest)))) (few-blocks w (omega (arith, k .within)))
   few-blocks (effect f w) h = rw (f .kind) (few-blocks w h)
 
-  pub few-effects : {at b e : ℕ} {records : List ℕ} → Walk s at b e records → e ≤ 256 → e + length (effectsIn s records) ≤ 256
+  pub few-effects : {at b e : ℕ} {records : List ℕ} → Passing s at b e records → e ≤ 256 → e + length (effectsIn s records) ≤ 256
   unfolding gather
   few-effects (finish {e = e} l ended) h = rw (add-zero e) h
   few-effects (block k w) h = rw (k .kind) (few-effects w h)
@@ -343,7 +343,7 @@ module _ (s : List ℕ) where
 
   -- every effect belongs to a block
   pub owned :
-      {at b e : ℕ} {records : List ℕ} → Walk s at b e records
+      {at b e : ℕ} {records : List ℕ} → Passing s at b e records
       → ownEffects s records + sumOwn (blocksIn s records) ≡ length (effectsIn s records)
   unfolding gather ownEffects sumOwn
   owned (finish l ended) = refl
@@ -351,14 +351,14 @@ module _ (s : List ℕ) where
   owned (effect {rest = rest} f w) = rw (f .kind) (suc-add (ownEffects s rest) (sumOwn (blocksIn s rest)) ∙ ap suc (owned w))
 
   -- before any block there are no effects
-  pub none-owned : {at b e : ℕ} {records : List ℕ} → Walk s at b e records → b ≡ 0 → ownEffects s records ≡ 0
+  pub none-owned : {at b e : ℕ} {records : List ℕ} → Passing s at b e records → b ≡ 0 → ownEffects s records ≡ 0
   unfolding ownEffects
   none-owned (finish l ended) z = refl
   none-owned (block k w) z = rw (k .kind)
   none-owned (effect f w) z = absurd (omega (arith, f .owned))
 
 -- the counter is neither block nor effect
-module _ (s : List ℕ) (f : Form s) where
+module _ (s : List ℕ) (f : AcceptedForm s) where
   pub blocks-after : blocksIn s (recordsFrom s 0) ≡ blocksIn s (recordsFrom s 17)
   unfolding gather
   blocks-after = ap (blocksIn s) (f .starts) ∙ rw (f .counter .kind)
@@ -375,11 +375,11 @@ pub record Counts (s : List ℕ) (blocks : List Block) (effects : List Effect) :
   pub none-early : ownEffects s (recordsFrom s 17) ≡ 0
   pub owned : sumOwn blocks ≡ length effects
 
-pub counts : (s : List ℕ) → Form s → Counts s (blocksIn s (recordsFrom s 0)) (effectsIn s (recordsFrom s 0))
+pub counts : (s : List ℕ) → AcceptedForm s → Counts s (blocksIn s (recordsFrom s 0)) (effectsIn s (recordsFrom s 0))
 counts s f = rw (blocks-after s f, effects-after s f) after
   where
-    w : Walk s 17 0 0 (recordsFrom s 17)
-    w = f .walk
+    w : Passing s 17 0 0 (recordsFrom s 17)
+    w = f .passing
 
     none-early : ownEffects s (recordsFrom s 17) ≡ 0
     none-early = none-owned s w refl
@@ -394,7 +394,7 @@ counts s f = rw (blocks-after s f, effects-after s f) after
     }
 
 -- and the body holds them, up to its counts
-module _ (s : List ℕ) (f : Form s) where
+module _ (s : List ℕ) (f : AcceptedForm s) where
   pub blocks-read : blocksCounted (bodyOf s) ≡ blocksIn s (recordsFrom s 0)
   blocks-read = take-fill zeroBlock 64 (blocksIn s (recordsFrom s 0)) (counts s f .few-blocks)
 
