@@ -1,7 +1,7 @@
 -- Numbers and their bytes: the digits of a number in base 256 are the bytes it was read from, and the number read from its digits is that number; a signed
 -- number is 32 bits and back. And reading a record at a place is reading what is left from there on. Rests on Form.
 use mathlib.Core.Bool.{Bool, true, false}
-use mathlib.Core.List.{List, _∷_}
+use mathlib.Core.List.{List, [], _∷_, _++_}
 use mathlib.Core.Path.{_≡_, refl, ap, sym, _∙_}
 use Prim.Native.Nat.{ℕ, zero, suc, _+_, _-_, _*_, _/_, _%_, _<_, _≤_, _^_}
 use native.Mathlib.Nat.{zero-add, add-assoc, add-zero, div-div-eq-div-mul}
@@ -18,6 +18,20 @@ use Rattle.form.specs.Form.{byteAt, number2, number4, signed4, blockAt, effectA
 -- Every entry is a byte; past the end stands 0, which is one
 abbrev pub OfBytes : List ℕ → Type 0
 OfBytes s = (i : ℕ) → byteAt s i < 256
+
+-- and so said entry by entry, front first
+abbrev pub Each : List ℕ → Type 0
+Each [] = Unit {0}
+Each (x ∷ l) = (x < 256) × Each l
+
+pub each-append : (l m : List ℕ) → Each l → Each m → Each (l ++ m)
+each-append [] m h k = k
+each-append (x ∷ l) m h k = (h .0, each-append l m (h .1) k)
+
+pub each-byte : (l : List ℕ) → Each l → OfBytes l
+each-byte [] h i = lit< tt
+each-byte (x ∷ l) h zero = h .0
+each-byte (x ∷ l) h (suc i) = each-byte l (h .1) i
 
 -- ---- reading at a place is reading what is left from there on
 

@@ -22,7 +22,7 @@ use Rattle.form.specs.Form.{kindAt, recordLength, recordsFrom, gather, ownEffec
 use Rattle.form.specs.Answer.{reading}
 use Rattle.form.specs.Laying.{blocksCounted, counts-known}
 use Rattle.form.specs.Records.{records-end, records-step}
-use Rattle.roundtrip.specs.Digits.{OfBytes, zero-fits, left-number2, left-block, left-effect, digits4}
+use Rattle.roundtrip.specs.Digits.{OfBytes, Each, each-append, each-byte, zero-fits, left-number2, left-block, left-effect, digits4}
 use Rattle.roundtrip.specs.Filled.{effectsCounted}
 use Rattle.roundtrip.specs.Acceptance.{next-is}
 use Rattle.roundtrip.specs.Laid.{Laid, none, block, effect, lays}
@@ -159,20 +159,6 @@ module _ (s : List ℕ) where
       block-step at ks es k t (hk 0) d (read-back l (λ i. hk (suc i)) he (at + 17) (sym (drop-drop 17 at s) ∙ ap (drop 17) d))
 
 -- ---- what is laid out is bytes
-
--- every entry of a list is a byte, front first
-abbrev Each : List ℕ → Type 0
-Each [] = Unit {0}
-Each (x ∷ l) = (x < 256) × Each l
-
-each-append : (l m : List ℕ) → Each l → Each m → Each (l ++ m)
-each-append [] m h k = k
-each-append (x ∷ l) m h k = (h .0, each-append l m (h .1) k)
-
-each-byte : (l : List ℕ) → Each l → OfBytes l
-each-byte [] h i = lit< tt
-each-byte (x ∷ l) h zero = h .0
-each-byte (x ∷ l) h (suc i) = each-byte l (h .1) i
 
 counter-each : (c : Counter) → HeldCounter c → Each (counterBytes c)
 counter-each c h = omega arith
