@@ -15,3 +15,4 @@ pub mod Unique
 pub mod ReadBack
 pub mod Trips
 pub mod Example
+pub mod Ready
