@@ -15,4 +15,3 @@ pub mod Unique
 pub mod ReadBack
 pub mod Trips
 pub mod Example
-pub mod Ready
