@@ -1,0 +1,3 @@
+-- The definitions that the contracts of the counter cite.
+pub mod Answer
+pub mod Uniqueness

@@ -1,0 +1,7 @@
+-- Laws of the relations of document 01, the count of a loop in closed form, and the laws of conditions and of the conflict list. No definition here is trusted.
+pub mod Relations
+pub mod Steps
+pub mod Loops
+pub mod Conditions
+pub mod ConflictList
+pub mod Listed

@@ -1,0 +1,2 @@
+-- What the proofs over words share.
+pub mod Filled

@@ -1,0 +1,58 @@
+// Sets of small numbers as words of 64 bits, bit k for the number k: the operations that the crates above compute with. Each says what
+// every bit of its result is (`bit` of the laws), those past 63 included.
+ghost use mathlib.Core.Path.{_≡_};
+ghost use mathlib.Core.Bool.{_&&_, _||_, not};
+ghost use Prim.Native.Nat.{ℕ, _<_};
+ghost use lib.Dec.{eqb};
+ghost use Rattle.laws.specs.Terms.{bit};
+
+// Whether k is in x.
+pub fn has(x: u64, k: usize) -> bool
+    ensures { λ r. ⌜ r ≡ bit x k ⌝ }
+{
+    if k < 64 { (x >> k) % 2 == 1 } else { false }
+}
+
+// x with k.
+pub fn with(x: u64, k: usize) -> u64
+    requires { ⌜ k < 64 ⌝ }
+    ensures { λ r. ⌜ ((j : ℕ) → bit r j ≡ bit x j || eqb j k) ⌝ }
+{
+    x | (1 << k)
+}
+
+// x, with k where the test holds.
+pub fn put(x: u64, k: usize, test: bool) -> u64
+    requires { ⌜ k < 64 ⌝ }
+    ensures { λ r. ⌜ ((j : ℕ) → bit r j ≡ bit x j || (test && eqb j k)) ⌝ }
+{
+    if test { with(x, k) } else { x }
+}
+
+// x where the test holds, else nothing.
+pub fn only(test: bool, x: u64) -> u64
+    ensures { λ r. ⌜ ((j : ℕ) → bit r j ≡ test && bit x j) ⌝ }
+{
+    if test { x } else { 0 }
+}
+
+// What is in both.
+pub fn both(a: u64, b: u64) -> u64
+    ensures { λ r. ⌜ ((j : ℕ) → bit r j ≡ bit a j && bit b j) ⌝ }
+{
+    a & b
+}
+
+// What is in either.
+pub fn either(a: u64, b: u64) -> u64
+    ensures { λ r. ⌜ ((j : ℕ) → bit r j ≡ bit a j || bit b j) ⌝ }
+{
+    a | b
+}
+
+// What is in a and not in b.
+pub fn less(a: u64, b: u64) -> u64
+    ensures { λ r. ⌜ ((j : ℕ) → bit r j ≡ bit a j && not (bit b j)) ⌝ }
+{
+    a & !b
+}
