@@ -10,7 +10,7 @@ use Rattle.laws.specs.Tests.{and-out}
 use Rattle.form.specs.declared.Verdict.the-variants.{Accepted, Refused}
 use Rattle.form.specs.Form.{recordLength, startsFor, recordsFrom, badField, badTarget, outOfPlace, overLimit, payloadFault, recordFault, endFault, judgeEnds, judgeRecords, judge, bodyOf, lay}
 use Rattle.roundtrip.specs.Digits.{Each, each-byte}
-use Rattle.roundtrip.specs.Sound.{Sound, sound}
+use Rattle.roundtrip.specs.Sound.{WellFormed, well-formed}
 use Rattle.roundtrip.specs.WriteBack.{lay-back}
 
 abbrev pub trainers : ℕ → List ℕ
@@ -43,8 +43,8 @@ bytes-each : (l : List ℕ) → bytes l ≡ true → Each l
 bytes-each [] h = tt
 bytes-each (x ∷ l) h = let (b, more) = and-out (ltb x 256) (bytes l) h in (ltb-true x 256 b, bytes-each l more)
 
-pub trainers-sound : Sound (bodyOf (trainers 3))
-trainers-sound = sound (trainers 3) accepted
+pub trainers-well-formed : WellFormed (bodyOf (trainers 3))
+trainers-well-formed = well-formed (trainers 3) accepted
 
 pub trainers-back : lay (bodyOf (trainers 3)) ≡ trainers 3
 trainers-back = lay-back (trainers 3) accepted (each-byte (trainers 3) (bytes-each (trainers 3) refl))

@@ -1,7 +1,9 @@
--- What the layers above may count on in the body of an accepted form, one fact for each rule of document 01 that the reader sees to. Blocks and effects are
--- taken up to their counts; past them stand zeros, for which every fact holds too, so none asks for a place below the count. Rests on Form; the proof on Acceptance.
+-- What the layers above may count on in the body of an accepted form. WellFormed has one fact for each rule of document 01 that the reader sees to; Conflict's
+-- Sound, which routes and conflicts ask for, follows. Blocks and effects are taken up to their counts; past them stand zeros, for which every fact holds too, so
+-- none asks for a place below the count. Rests on Form and Conflict; the proof on Acceptance.
 use mathlib.Core.Bool.{Bool, true, _||_, _&&_}
 use mathlib.Core.List.{List, _∷_}
+use mathlib.Core.Logic.{inl, inr}
 use mathlib.Core.Path.{_≡_, refl, ap, sym, subst, _∙_}
 use Prim.Native.Nat.{ℕ, zero, suc, _+_, _<_, _≤_}
 use native.Mathlib.Nat.{zero-add, add-zero}
@@ -13,12 +15,14 @@ use lib.ListN.{length, getD, take}
 use lib.Seq.{getD-take}
 use mir.Syntax.{w32}
 use mir.Val.{SFits, toZ}
+use Rattle.laws.specs.Terms.{Mem}
 use Rattle.laws.specs.Tests.{or-no}
 use Rattle.form.specs.declared.Block.{Block}
 use Rattle.form.specs.declared.Effect.{Effect}
 use Rattle.form.specs.declared.Body.{Body}
 use Rattle.form.specs.declared.Verdict.the-variants.{Accepted}
 use Rattle.form.specs.Form.{byteAt, number4, isBlock, recordsFrom, endFault, someTarget, judgeEnds, judge, gather, ownEffects, blockAt, effectAt, blocksIn, effectsIn, zeroBlock, zeroEffect, bodyOf, sumOwn, countsFit}
+use Rattle.form.specs.Conflict.{block as block-of, exitsBy, exits, Onward, Sound}
 use Rattle.form.specs.Laying.{blocksCounted}
 use Rattle.roundtrip.specs.Digits.{zero-fits, signed-fits}
 use Rattle.roundtrip.specs.Filled.{effectsCounted, fill-length}
@@ -31,7 +35,7 @@ abbrev pub effectOf : Body → ℕ → Effect
 effectOf body i = getD (take (body .total) (body .effects)) i zeroEffect
 
 -- Block b of `count`
-pub record SoundBlock (count b : ℕ) (k : Block) : Type 0 where
+pub record WellFormedBlock (count b : ℕ) (k : Block) : Type 0 where
   pub cost : k .cost ≤ 1000000
   pub ending : k .ending ≤ 3
   pub variable : k .variable ≤ 15
@@ -49,13 +53,13 @@ pub record SoundBlock (count b : ℕ) (k : Block) : Type 0 where
   pub no-relation : k .ending < 3 → k .relation ≡ 0
   pub no-constant : k .ending < 3 → k .constant ≡ pos 0
 
-pub record SoundEffect (e : Effect) : Type 0 where
+pub record WellFormedEffect (e : Effect) : Type 0 where
   pub variable : e .variable ≤ 15
   pub how : e .how ≤ 1
   pub constant : SFits w32 (e .constant)
   pub no-constant : e .how < 1 → e .constant ≡ pos 0
 
-pub record Sound (body : Body) : Type 0 where
+pub record WellFormed (body : Body) : Type 0 where
   pub room-blocks : length (body .blocks) ≡ 64
   pub room-effects : length (body .effects) ≡ 256
   pub some-block : 0 < body .count
@@ -66,13 +70,13 @@ pub record Sound (body : Body) : Type 0 where
   pub step : SFits w32 (body .counter .step)
   pub relation : body .counter .relation ≤ 5
   pub limit : SFits w32 (body .counter .limit)
-  pub blocks : (b : ℕ) → SoundBlock (body .count) b (blockOf body b)
-  pub effects : (i : ℕ) → SoundEffect (effectOf body i)
+  pub blocks : (b : ℕ) → WellFormedBlock (body .count) b (blockOf body b)
+  pub effects : (i : ℕ) → WellFormedEffect (effectOf body i)
 
 -- the writer's counts fit
-pub sound-counts : (body : Body) → Sound body → countsFit body ≡ true
+pub counts-fit : (body : Body) → WellFormed body → countsFit body ≡ true
 unfolding countsFit
-sound-counts body h =
+counts-fit body h =
     rw (le-leb (body .count) 64 (h .few-blocks), le-leb (body .total) 256 (h .few-effects)) (eq-eqb _ _ (h .add-up))
 
 -- below the counts the arrays hold the blocks and effects
@@ -85,7 +89,7 @@ effect-at body i h = sym (getD-take (body .total) (body .effects) i zeroEffect h
 -- ---- the proof: one record
 
 -- past the last block
-past : (n b : ℕ) → n ≤ b → SoundBlock n b zeroBlock
+past : (n b : ℕ) → n ≤ b → WellFormedBlock n b zeroBlock
 past n b h =
     record {
       cost = lit≤ tt;
@@ -108,9 +112,9 @@ past n b h =
 
 module _ (s : List ℕ) where
   -- what 18 and 19 leave of a block, number b of n
-  block-sound : (at b n own : ℕ) → BlockRecord s at b → endFault s at n b ≡ 0 → SoundBlock n b (blockAt s at own)
+  block-well : (at b n own : ℕ) → BlockRecord s at b → endFault s at n b ≡ 0 → WellFormedBlock n b (blockAt s at own)
   unfolding endFault
-  block-sound at b n own k e =
+  block-well at b n own k e =
       let (end, e₁) = no-fault (isBlock s at && badEnd) 18 _ (lit< tt) e in
       let (beyond, e₂) = no-fault (isBlock s at && badReach) 19 0 (lit< tt) e₁ in
       let (early, late) = or-no (ltb (b + 1) n && eqb ending 0) _ (second-fails badEnd is end) in
@@ -146,8 +150,8 @@ module _ (s : List ℕ) where
       is : isBlock s at ≡ true
       is = eq-eqb _ 2 (k .kind)
 
-  effect-sound : (at b e : ℕ) → EffectRecord s at b e → SoundEffect (effectAt s at)
-  effect-sound at b e f =
+  effect-well : (at b e : ℕ) → EffectRecord s at b e → WellFormedEffect (effectAt s at)
+  effect-well at b e f =
       record {
         variable = f .variable;
         how = f .how;
@@ -159,38 +163,38 @@ module _ (s : List ℕ) where
 
 -- the block at hand is number b, and those after it follow
 here-or-later :
-    {n b : ℕ} {k : Block} (ks : List Block) → SoundBlock n b k → ((i : ℕ) → SoundBlock n (b + 1 + i) (getD ks i zeroBlock))
-    → (i : ℕ) → SoundBlock n (b + i) (getD (k ∷ ks) i zeroBlock)
+    {n b : ℕ} {k : Block} (ks : List Block) → WellFormedBlock n b k → ((i : ℕ) → WellFormedBlock n (b + 1 + i) (getD ks i zeroBlock))
+    → (i : ℕ) → WellFormedBlock n (b + i) (getD (k ∷ ks) i zeroBlock)
 here-or-later {b = b} ks h l zero = rw (add-zero b) h
 here-or-later {b = b} ks h l (suc i) = rw (← (one-more b i)) (l i)
 
-first-or-later : {e : Effect} (es : List Effect) → SoundEffect e → ((i : ℕ) → SoundEffect (getD es i zeroEffect)) → (i : ℕ) → SoundEffect (getD (e ∷ es) i zeroEffect)
+first-or-later : {e : Effect} (es : List Effect) → WellFormedEffect e → ((i : ℕ) → WellFormedEffect (getD es i zeroEffect)) → (i : ℕ) → WellFormedEffect (getD (e ∷ es) i zeroEffect)
 first-or-later es h l zero = h
 first-or-later es h l (suc i) = l i
 
 module _ (s : List ℕ) where
-  blocks-sound :
+  blocks-well :
       {at b e : ℕ} {records : List ℕ} → Passing s at b e records → (n : ℕ) → n ≡ b + length (blocksIn s records) → judgeEnds s n records b ≡ Accepted
-      → (i : ℕ) → SoundBlock n (b + i) (getD (blocksIn s records) i zeroBlock)
+      → (i : ℕ) → WellFormedBlock n (b + i) (getD (blocksIn s records) i zeroBlock)
   unfolding gather judgeEnds
-  blocks-sound (finish {b = b} l ended) n c a i = past n (b + i) (omega arith)
-  blocks-sound (block {at = at} {b = b} {rest = rest} k w) n c a i =
+  blocks-well (finish {b = b} l ended) n c a i = past n (b + i) (omega arith)
+  blocks-well (block {at = at} {b = b} {rest = rest} k w) n c a i =
       let (fine, more) = judged-out (endFault s at n b) at _ a in
       let c′ : n ≡ b + suc (length (blocksIn s rest)) = rw (k .kind) at c in
       let a′ : judgeEnds s n rest (b + 1) ≡ Accepted = rw (k .kind) at more in
-      let later = blocks-sound w n (c′ ∙ sym (one-more b (length (blocksIn s rest)))) a′ in
-      rw (k .kind) (here-or-later (blocksIn s rest) (block-sound s at b n (ownEffects s rest) k fine) later i)
-  blocks-sound (effect {at = at} {b = b} {rest = rest} f w) n c a i =
+      let later = blocks-well w n (c′ ∙ sym (one-more b (length (blocksIn s rest)))) a′ in
+      rw (k .kind) (here-or-later (blocksIn s rest) (block-well s at b n (ownEffects s rest) k fine) later i)
+  blocks-well (effect {at = at} {b = b} {rest = rest} f w) n c a i =
       let (fine, more) = judged-out (endFault s at n b) at _ a in
       let c′ : n ≡ b + length (blocksIn s rest) = rw (f .kind) at c in
       let a′ : judgeEnds s n rest (b + 0) ≡ Accepted = rw (f .kind) at more in
-      rw (f .kind) (blocks-sound w n c′ (subst (λ (m : ℕ). judgeEnds s n rest m ≡ Accepted) (add-zero b) a′) i)
+      rw (f .kind) (blocks-well w n c′ (subst (λ (m : ℕ). judgeEnds s n rest m ≡ Accepted) (add-zero b) a′) i)
 
-  effects-sound : {at b e : ℕ} {records : List ℕ} → Passing s at b e records → (i : ℕ) → SoundEffect (getD (effectsIn s records) i zeroEffect)
+  effects-well : {at b e : ℕ} {records : List ℕ} → Passing s at b e records → (i : ℕ) → WellFormedEffect (getD (effectsIn s records) i zeroEffect)
   unfolding gather
-  effects-sound (finish l ended) i = record { variable = lit≤ tt; how = lit≤ tt; constant = zero-fits; no-constant = λ u. refl }
-  effects-sound (block k w) i = rw (k .kind) (effects-sound w i)
-  effects-sound (effect {at = at} {b = b} {e = e} {rest = rest} f w) i = rw (f .kind) (first-or-later (effectsIn s rest) (effect-sound s at b e f) (effects-sound w) i)
+  effects-well (finish l ended) i = record { variable = lit≤ tt; how = lit≤ tt; constant = zero-fits; no-constant = λ u. refl }
+  effects-well (block k w) i = rw (k .kind) (effects-well w i)
+  effects-well (effect {at = at} {b = b} {e = e} {rest = rest} f w) i = rw (f .kind) (first-or-later (effectsIn s rest) (effect-well s at b e f) (effects-well w) i)
 
 -- ---- the theorem
 
@@ -214,18 +218,18 @@ module _ (s : List ℕ) (a : judge s ≡ Accepted) where
   effects-same : effectsCounted (bodyOf s) ≡ effectsIn s (recordsFrom s 17)
   effects-same = effects-read s read ∙ effects-after s read
 
-  block-read : (b : ℕ) → SoundBlock (bodyOf s .count) b (blockOf (bodyOf s) b)
+  block-read : (b : ℕ) → WellFormedBlock (bodyOf s .count) b (blockOf (bodyOf s) b)
   block-read b =
       let n = bodyOf s .count in
       let all : n ≡ 0 + length (blocksIn s (recordsFrom s 17)) = ap length (blocks-after s read) ∙ sym (zero-add _) in
-      subst (λ (p : ℕ × List Block). SoundBlock n (p .0) (getD (p .1) b zeroBlock)) (λ i. (zero-add b i, sym blocks-same i))
-      (blocks-sound s (read .passing) n all (ends-after n (number .ended .ends)) b)
+      subst (λ (p : ℕ × List Block). WellFormedBlock n (p .0) (getD (p .1) b zeroBlock)) (λ i. (zero-add b i, sym blocks-same i))
+      (blocks-well s (read .passing) n all (ends-after n (number .ended .ends)) b)
 
-  effect-read : (i : ℕ) → SoundEffect (effectOf (bodyOf s) i)
-  effect-read i = subst (λ (es : List Effect). SoundEffect (getD es i zeroEffect)) (sym effects-same) (effects-sound s (read .passing) i)
+  effect-read : (i : ℕ) → WellFormedEffect (effectOf (bodyOf s) i)
+  effect-read i = subst (λ (es : List Effect). WellFormedEffect (getD es i zeroEffect)) (sym effects-same) (effects-well s (read .passing) i)
 
-  pub sound : Sound (bodyOf s)
-  sound =
+  pub well-formed : WellFormed (bodyOf s)
+  well-formed =
       record {
         room-blocks = fill-length zeroBlock 64 _;
         room-effects = fill-length zeroEffect 256 _;
@@ -240,3 +244,50 @@ module _ (s : List ℕ) (a : judge s ≡ Accepted) where
         blocks = block-read;
         effects = effect-read;
       }
+
+-- ---- what routes and conflicts ask for
+
+-- a target that some exit has is used
+by-exits :
+    (P : ℕ → Type 0) (ending jump fall : ℕ) → (0 < ending → P jump) → (1 < ending → P fall) → (o : ℕ × ℕ) → Mem o (exitsBy ending jump fall) → P (o .1)
+by-exits P zero jump fall j f o m = absurd m
+by-exits P (suc zero) jump fall j f o (inl e) = subst (λ (q : ℕ × ℕ). P (q .1)) (sym e) (j (omega arith))
+by-exits P (suc zero) jump fall j f o (inr m) = absurd m
+by-exits P (suc (suc zero)) jump fall j f o (inl e) = subst (λ (q : ℕ × ℕ). P (q .1)) (sym e) (j (omega arith))
+by-exits P (suc (suc zero)) jump fall j f o (inr (inl e)) = subst (λ (q : ℕ × ℕ). P (q .1)) (sym e) (f (omega arith))
+by-exits P (suc (suc zero)) jump fall j f o (inr (inr m)) = absurd m
+by-exits P (suc (suc (suc zero))) jump fall j f o (inl e) = subst (λ (q : ℕ × ℕ). P (q .1)) (sym e) (j (omega arith))
+by-exits P (suc (suc (suc zero))) jump fall j f o (inr (inl e)) = subst (λ (q : ℕ × ℕ). P (q .1)) (sym e) (f (omega arith))
+by-exits P (suc (suc (suc zero))) jump fall j f o (inr (inr m)) = absurd m
+by-exits P (suc (suc (suc (suc n)))) jump fall j f o m = absurd m
+
+-- a block that does not end is left by jump
+left-by-jump : (ending jump fall : ℕ) → 0 < ending → ending ≤ 3 → Mem (1, jump) (exitsBy ending jump fall)
+left-by-jump zero jump fall some few = absurd (omega arith)
+left-by-jump (suc zero) jump fall some few = inl refl
+left-by-jump (suc (suc zero)) jump fall some few = inl refl
+left-by-jump (suc (suc (suc zero))) jump fall some few = inl refl
+left-by-jump (suc (suc (suc (suc n)))) jump fall some few = absurd (omega arith)
+
+module _ (body : Body) (w : WellFormed body) where
+  pub onward : Onward body
+  unfolding exits block-of
+  onward =
+      record {
+        above = λ b. by-exits (λ t. b < t) _ _ _ (w .blocks b .jump-above) (w .blocks b .fall-above);
+        inside = λ b. by-exits (λ t. t < body .count) _ _ _ (w .blocks b .jump-inside) (w .blocks b .fall-inside);
+      }
+
+  pub is-sound : Sound body
+  unfolding exits block-of
+  is-sound =
+      record {
+        some = w .some-block;
+        few = w .few-blocks;
+        onward = onward;
+        going = λ b l. ((1, blockOf body b .jump), left-by-jump _ _ (blockOf body b .fall) (w .blocks b .only-last l) (w .blocks b .ending));
+        known = λ b. w .blocks b .relation;
+      }
+
+pub sound : (s : List ℕ) → judge s ≡ Accepted → Sound (bodyOf s)
+sound s a = is-sound (bodyOf s) (well-formed s a)

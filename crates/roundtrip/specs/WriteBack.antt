@@ -16,7 +16,7 @@ use Rattle.form.specs.Answer.{written, heldAfter}
 use Rattle.form.specs.Writing.{room-enough}
 use Rattle.roundtrip.specs.Digits.{OfBytes, left-bytes, left-length, left-number2, left-block, left-effect, spread, spread-all, two, four, fits4}
 use Rattle.roundtrip.specs.Acceptance.{BlockRecord, EffectRecord, Passing, finish, block, effect, AcceptedForm, accepted-form, Counts, counts, blocks-after, effects-after, blocks-read, effects-read}
-use Rattle.roundtrip.specs.Sound.{sound, sound-counts}
+use Rattle.roundtrip.specs.Sound.{well-formed, counts-fit}
 use Rattle.roundtrip.specs.Laid.{Laid, laid-as, none, block as laid-block, effect as laid-effect, laid-from-start, lay-taken}
 
 -- ---- each record's bytes come back
@@ -80,7 +80,7 @@ module _ (s : List ℕ) (a : judge s ≡ Accepted) where
 
   -- the counts of an accepted form fit
   pub counts-back : countsFit (bodyOf s) ≡ true
-  counts-back = sound-counts (bodyOf s) (sound s a)
+  counts-back = counts-fit (bodyOf s) (well-formed s a)
 
   -- and it is laid out as it was read
   module _ (h : OfBytes s) where
