@@ -1,19 +1,24 @@
 -- What is owed leaves one answer. For each of the three cases of document 01 the values that the answer then has; that any two
--- answers to one question are the same, for each public call; and the count's range. Rests on Answer and on relations.Loops.
+-- answers to one question are the same, for each public call; which one it is; and the count's range. Rests on Answer and on relations.Loops.
 use mathlib.Core.Path.{_≡_, refl, sym, ap, _∙_}
 use mathlib.Core.Bool.{Bool}
-use Prim.Native.Nat.{ℕ, _<_, _≤_}
+use Prim.Native.Nat.{ℕ, zero, suc, _<_, _≤_}
 use native.Mathlib.Omega.{arith}
 use lib.IntN.{ℤ}
 use mir.Syntax.{w32}
 use mir.Val.{SFits}
 use Rattle.form.specs.Relation.{meets}
 use Rattle.form.specs.Counter.{Count}
-use Rattle.relations.specs.Loops.{count-once, count-few}
+use Rattle.relations.specs.Steps.{Found}
+use Rattle.relations.specs.Loops.{countOf, count-once, count-found, count-few}
 use Rattle.counter.specs.declared.Counted.{Counted}
 use Rattle.counter.specs.declared.Counted.the-variants.{Iterations, Refused}
-use Rattle.counter.specs.declared.CounterAnswer.{CounterAnswer}
-use Rattle.counter.specs.Answer.{Values, count, refusal, said, exported, Owed, no-relation, no-count, counted}
+use Rattle.counter.specs.Answer.{Values, count, refusal, said, Owed, no-relation, no-count, counted}
+
+-- the answer that the closed form gives: a case of document 01 is decided by computing it
+abbrev pub answerOf : ℕ → Counted
+answerOf zero = Refused 20 0
+answerOf (suc k) = Iterations (suc k)
 
 module _ (initial step : ℤ) (relation : ℕ) (limit : ℤ) where
   too-high : 5 < relation → relation ≤ 5 → ⊥
@@ -64,11 +69,13 @@ module _ (initial step : ℤ) (relation : ℕ) (limit : ℤ) where
   pub one-count : (a b : Counted) → Owed initial step relation limit (said a) → Owed initial step relation limit (said b) → a ≡ b
   one-count a b o p = same a b (owed-once (said a) (said b) o p) o p
 
-  -- ---- `counter_count`
-  pub one-export : (a b : CounterAnswer) → Owed initial step relation limit (exported a) → Owed initial step relation limit (exported b) → a ≡ b
-  one-export a b o p =
-      let e = owed-once (exported a) (exported b) o p in
-      λ i. record { number = e i .number; place = e i .place; iterations = e i .iterations }
+  owes : relation ≤ 5 → (n : ℕ) → Found (Count initial step relation limit) n → Owed initial step relation limit (said (answerOf n))
+  owes l zero w = no-count l w refl
+  owes l (suc k) w = counted l (suc k) w refl
+
+  pub decided : SFits w32 initial → relation ≤ 5 → (a : Counted) → Owed initial step relation limit (said a) → a ≡ answerOf (countOf initial step relation limit)
+  decided fits l a o =
+      one-count a (answerOf (countOf initial step relation limit)) o (owes l (countOf initial step relation limit) (count-found initial fits relation limit step))
 
 -- ---- `meets`
 pub one-meets : (relation : ℕ) (value constant : ℤ) (a b : Bool) → a ≡ meets relation value constant → b ≡ meets relation value constant → a ≡ b

@@ -1,28 +1,20 @@
 // The counter of document 01: how often the body of a counted loop runs, in closed form. Numbers of 32 bits are worked on at
 // 64, where a difference of two, a negation and one more step still fit.
 ghost use mathlib.Core.Path.{_≡_};
-ghost use Prim.Native.Nat.{ℕ, _/_, _%_, _<_};
+ghost use Prim.Native.Nat.{_/_, _%_, _<_};
 ghost use lib.Dec.{eqb};
-ghost use lib.IntN.{ℤ, pos, negsuc, negℤ, _-ℤ_};
+ghost use lib.IntN.{pos, negℤ, _-ℤ_};
 ghost use Rattle.laws.specs.Whole.{up, dn};
 ghost use Rattle.form.specs.Relation.{meets};
 ghost use Rattle.relations.specs.Relations.{mirrored};
 ghost use Rattle.relations.specs.Steps.{later, first, within};
 ghost use Rattle.relations.specs.Loops.{countOf};
-ghost use Rattle.counter.specs.Answer.{Owed, said, exported};
+ghost use Rattle.counter.specs.Answer.{Owed, said};
 
 // What the counter answers: the count, or the refusal's number and place.
 pub enum Counted {
     Iterations(u64),
     Refused { number: u32, place: usize },
-}
-
-// The same for C: number 0 with the count, or the refusal's number and place.
-#[repr(C)]
-pub struct CounterAnswer {
-    pub number: u64,
-    pub place: u64,
-    pub iterations: u64,
 }
 
 fn wide(x: i32) -> i64
@@ -224,23 +216,4 @@ pub fn count_of(counter: form::Counter) -> Counted
         counter.relation,
         counter.limit,
     )
-}
-
-// The count of a loop, asked from C.
-#[no_mangle]
-pub extern "C" fn counter_count(initial: i32, step: i32, relation: u8, limit: i32) -> CounterAnswer
-    ensures { λ r. ⌜ Owed initial step relation limit (exported r) ⌝ }
-{
-    match count(initial, step, relation, limit) {
-        Counted::Iterations(k) => CounterAnswer {
-            number: 0,
-            place: 0,
-            iterations: k,
-        },
-        Counted::Refused { number, place } => CounterAnswer {
-            number: number as u64,
-            place: place as u64,
-            iterations: 0,
-        },
-    }
 }

@@ -1,13 +1,13 @@
 -- Conflicts, after document 01, 'Conflicts and routes': the blocks, effects and edges of a body, conditions, clean paths and the conflict list.
 -- Trusted: definitions only. Rests on Relation (when a number meets a relation) and on the laws' Terms.
--- Two tests stand beside the statement that they decide (`contradict` and Contradict, `clean` and Clean); ConflictLaws proves that they say the same,
--- and that the list holds exactly what Holds says, in order.
+-- Two tests stand beside the statement that they decide (`contradict` and Contradict, `clean` and Clean). The crate relations proves that they say the same
+-- (Conditions, ConflictList), and that the list holds exactly what Holds says, in order.
 use mathlib.Core.Path.{_≡_}
 use mathlib.Core.Logic.{_⊎_}
 use mathlib.Core.Bool.{Bool, true, false, not, cond, _||_, _&&_}
 use mathlib.Core.List.{List, [], _∷_, _++_}
 use mathlib.Core.Option.{Option, none, some}
-use Prim.Native.Nat.{ℕ, zero, suc, _+_, _<_}
+use Prim.Native.Nat.{ℕ, zero, suc, _+_, _≤_, _<_}
 use lib.Dec.{eqb, ltb}
 use lib.IntN.{ℤ, pos, _+ℤ_, _-ℤ_}
 use lib.ListN.{getD, take, drop}
@@ -64,10 +64,18 @@ exitsBy (suc (suc (suc (suc above)))) jump fall = []
 unfoldable pub exits : Body → ℕ → List (ℕ × ℕ)
 exits body b = exitsBy (block body b .ending) (block body b .jump) (block body b .fall)
 
--- Every target is above its block and is a block: what the reader sees to (16, 19).
+-- Every target is above its block and is a block.
 pub record Onward (body : Body) : Type 0 where
   pub above : (b : ℕ) (o : ℕ × ℕ) → Mem o (exits body b) → b < o .1
   pub inside : (b : ℕ) (o : ℕ × ℕ) → Mem o (exits body b) → o .1 < body .count
+
+-- What the reader sees to in every body that it accepts, as far as routes and conflicts need it (14 to 19).
+pub record Sound (body : Body) : Type 0 where
+  pub some : 0 < body .count
+  pub few : body .count ≤ 64
+  pub onward : Onward body
+  pub going : (b : ℕ) → suc b < body .count → (o : ℕ × ℕ) × Mem o (exits body b)  -- every block but the last has an exit
+  pub known : (b : ℕ) → block body b .relation ≤ 5
 
 -- ---- conditions
 
@@ -167,6 +175,13 @@ pairsOf body e =
 -- The conflict list: by the second block, its outcome, kind, first block, third byte.
 unfoldable pub conflicts : Body → List Pair
 conflicts body = each (range 0 (body .count)) (λ s. each (exits body s) (λ o. pairsOf body (s, o .0)))
+
+abbrev pub same : Edge → Edge → Bool
+same x e = eqb (x .0) (e .0) && eqb (x .1) (e .1)
+
+-- The list pairs e as second with a first in a block below b.
+unfoldable pub listed : List Pair → ℕ → Edge → Bool
+listed list b e = anyOf (λ p. same (secondOf p) e && ltb (p .first) b) list
 
 -- Its bytes, 5 for each pair.
 unfoldable pub conflictBytes : Body → List ℕ

@@ -1,5 +1,5 @@
 -- The trusted definitions of the lower layer (Form, Answer, Relation, Counter, Conflict), and the laws that its proofs share (Records,
--- Filling, Laying).
+-- Filling, Laying, Writing).
 pub mod Form
 pub mod Answer
 pub mod Relation
@@ -7,3 +7,5 @@ pub mod Counter
 pub mod Conflict
 pub mod Records
 pub mod Filling
+pub mod Laying
+pub mod Writing

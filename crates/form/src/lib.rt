@@ -632,3 +632,113 @@ fn effect_bytes(e: Effect) -> [u8; 10]
         (c / 16777216 % 256) as u8,
     ]
 }
+
+// The n effects from `from` on, laid out in `buf` from `at` on; the place after them.
+fn lay_effects(buf: &mut [u8], at: usize, effects: [Effect; 256], from: usize, n: usize) -> usize
+    requires { ⌜ (from + n ≤ 256) × (at + 10 * n ≤ length (now buf)) ⌝ }
+    ensures { λ r. ⌜ (r ≡ at + 10 * n) × (take r (now (buf .exit)) ≡ take at (now (buf .entry)) ++ layEffects (take n (drop from effects))) ⌝ }
+{
+    let mut to = at;
+    let mut j = 0;
+    while j < n {
+        let bytes = effect_bytes(effects[from + j]);
+        to = copy_in(buf, to, &bytes);
+        j += 1;
+    }
+    to
+}
+
+// Whether a body's counts are within the limits and its blocks' own effects add up.
+fn counts_fit(body: Body) -> bool
+    ensures { λ r. ⌜ r ≡ countsFit body ⌝ }
+{
+    let count = body.count;
+    let total = body.total;
+    if 64 < count {
+        return false;
+    }
+    if 256 < total {
+        return false;
+    }
+    let blocks = body.blocks;
+    let mut left = total;
+    let mut k = 0;
+    while k < count {
+        let own = blocks[k].effects;
+        if left < own {
+            return false;
+        }
+        left -= own;
+        k += 1;
+    }
+    left == 0
+}
+
+// A block and its own effects, those from `e` on, laid out in `buf` from `at` on; the place after them.
+fn lay_block(buf: &mut [u8], at: usize, block: Block, effects: [Effect; 256], e: usize) -> usize
+    requires { ⌜ (e + block .effects ≤ 256) × (at + (17 + 10 * block .effects) ≤ length (now buf)) ⌝ }
+    ensures { λ r. ⌜ (r ≡ at + (17 + 10 * block .effects)) × (take r (now (buf .exit)) ≡ take at (now (buf .entry)) ++ (blockBytes block ++ layEffects (take (block .effects) (drop e effects)))) ⌝ }
+{
+    let bytes = block_bytes(block);
+    let after = copy_in(buf, at, &bytes);
+    let own = block.effects;
+    lay_effects(buf, after, effects, e, own)
+}
+
+// A body laid out from the buffer's start on; how many bytes that takes.
+fn lay(buf: &mut [u8], body: Body) -> usize
+    requires { ⌜ (countsFit body ≡ true) × (3665 ≤ length (now buf)) ⌝ }
+    ensures { λ r. ⌜ (r ≡ length (lay body)) × ((r ≤ 3665) × (take r (now (buf .exit)) ≡ lay body)) ⌝ }
+{
+    let count = body.count;
+    let blocks = body.blocks;
+    let effects = body.effects;
+    let counter = body.counter;
+    let first = counter_bytes(counter);
+    let mut at = copy_in(buf, 0, &first);
+    let mut k = 0;
+    let mut e = 0;
+    while k < count {
+        let block = blocks[k];
+        at = lay_block(buf, at, block, effects, e);
+        e += block.effects;
+        k += 1;
+    }
+    at
+}
+
+// The refusal that a verdict stands for, or the rest where it accepts.
+fn as_judged(verdict: Verdict, rest: Written) -> Written
+    ensures { λ r. ⌜ r ≡ asJudged verdict rest ⌝ }
+{
+    match verdict {
+        Verdict::Accepted => rest,
+        Verdict::Refused { number, place } => Written::Unwritten { number, place },
+    }
+}
+
+// The writer, for any body: its form in the lent bytes, or a refusal that changes none of them.
+pub fn write(body: Body, out: &mut [u8]) -> Written
+    ensures { λ r. ⌜ (r ≡ written body (length (now (out .entry)))) × (now (out .exit) ≡ heldAfter r (lay body) (now (out .entry))) ⌝ }
+{
+    if !counts_fit(body) {
+        return Written::Unwritten {
+            number: 14,
+            place: 0,
+        };
+    }
+    let mut buf = [0u8; 3665];
+    let n = lay(&mut buf, body);
+    let verdict = judge(&buf[..n]);
+    if !accepts(verdict) {
+        return as_judged(verdict, Written::Bytes(0));
+    }
+    if out.len() < n {
+        return Written::Unwritten {
+            number: 42,
+            place: n,
+        };
+    }
+    copy_in(out, 0, &buf[..n]);
+    Written::Bytes(n)
+}

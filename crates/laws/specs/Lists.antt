@@ -2,7 +2,7 @@
 -- Rests on Terms and Tests.
 use mathlib.Core.Path.{_≡_, refl, sym, ap, _∙_}
 use mathlib.Core.Logic.{_⊎_, inl, inr}
-use mathlib.Core.Bool.{Bool, true, false, not, cond, _||_, _&&_}
+use mathlib.Core.Bool.{Bool, true, false, cond}
 use mathlib.Core.List.{List, [], _∷_, _++_, map, append-assoc}
 use Prim.Native.Nat.{ℕ, zero, suc, _+_, _≤_, _<_}
 use native.Mathlib.Omega.{arith}
@@ -128,6 +128,10 @@ module _ {A B : Type 0} where
       go : (c : Bool) → only f (map g l) ≡ map g (only (λ x. f (g x)) l) → cond c (g x ∷ only f (map g l)) (only f (map g l)) ≡ map g (cond c (x ∷ only (λ x. f (g x)) l) (only (λ x. f (g x)) l))
       go true h = ap (λ t. g x ∷ t) h
       go false h = h
+
+  pub map-same : (f g : A → B) (l : List A) → ((x : A) → Mem x l → f x ≡ g x) → map f l ≡ map g l
+  map-same f g [] h = refl
+  map-same f g (x ∷ l) h = rw (h x (inl refl), map-same f g l (λ y m. h y (inr m)))
 
   pub each-same : (l : List A) (f g : A → List B) → ((x : A) → Mem x l → f x ≡ g x) → each l f ≡ each l g
   each-same [] f g h = refl

@@ -3,11 +3,14 @@
 -- (`ext`) keeps it. Rests on Orders and Lists.
 use mathlib.Core.Path.{_≡_, refl, sym, ap, _∙_, subst}
 use mathlib.Core.Logic.{_⊎_, inl, inr}
-use mathlib.Core.Bool.{Bool, true, false, not, cond}
-use mathlib.Core.List.{List, [], _∷_, _++_}
+use mathlib.Core.Bool.{Bool, true, false, cond}
+use mathlib.Core.List.{List, [], _∷_, _++_, map}
 use mathlib.Core.Option.{Option, none, some}
+use Prim.Native.Nat.{_≤_}
+use native.Mathlib.Omega.{arith}
+use lib.ListN.{length}
 use Rattle.laws.specs.Terms.{Mem}
-use Rattle.laws.specs.Tests.{split, clash}
+use Rattle.laws.specs.Tests.{clash}
 use Rattle.laws.specs.Orders.{Order, asym, ntrans}
 use Rattle.laws.specs.Lists.{mem-left, mem-right, mem-append, mem-swap}
 
@@ -36,10 +39,6 @@ module _ {K B : Type 0} (lt : K → K → Bool) (bt : B → B → Bool) where
   unfoldable pub insert : K × B → List (K × B) → List (K × B)
   insert e [] = e ∷ []
   insert e (x ∷ r) = place (lt (e .0) (x .0)) (lt (x .0) (e .0)) e x r (insert e r)
-
-  unfoldable pub inserts : List (K × B) → List (K × B)
-  inserts [] = []
-  inserts (e ∷ l) = insert e (inserts l)
 
   abbrev pub Asc : List (K × B) → Type 0
   Asc [] = Unit {0}
@@ -102,11 +101,6 @@ module _ {K B : Type 0} (lt : K → K → Bool) (bt : B → B → Bool) where
     covers-insert e [] = covers-refl (e ∷ [])
     covers-insert e (x ∷ r) = covers-place _ _ e x r (insert e r) refl refl (covers-insert e r)
 
-    pub covers-inserts : (l : List (K × B)) → Covers bt l (inserts l)
-    unfolding inserts
-    covers-inserts [] = covers-refl []
-    covers-inserts (e ∷ l) = covers-trans _ _ _ (covers-cons e l (inserts l) (covers-inserts l)) (covers-insert e (inserts l))
-
     -- the insertion keeps a row ascending
     asc-place : (a b : Bool) (e x : K × B) (r i : List (K × B)) → lt (e .0) (x .0) ≡ a → lt (x .0) (e .0) ≡ b → Covers bt (e ∷ r) i
         → Asc (x ∷ r) → Asc i → Asc (place a b e x r i)
@@ -130,11 +124,6 @@ module _ {K B : Type 0} (lt : K → K → Bool) (bt : B → B → Bool) where
     unfolding insert
     asc-insert e [] h = (λ y m. absurd m, tt)
     asc-insert e (x ∷ r) h = asc-place _ _ e x r (insert e r) refl refl (covers-insert e r) h (asc-insert e r (h .1))
-
-    pub asc-inserts : (l : List (K × B)) → Asc (inserts l)
-    unfolding inserts
-    asc-inserts [] = tt
-    asc-inserts (e ∷ l) = asc-insert e (inserts l) (asc-inserts l)
 
     -- an ascending list has one entry of a key, and is known by its entries
     pub asc-one : (r : List (K × B)) (x y : K × B) → Asc r → Mem x r → Mem y r → x .0 ≡ y .0 → x ≡ y
@@ -233,3 +222,60 @@ module _ {K B : Type 0} (s : K → Option K) (g : B → B) where
 pub record IsRow {K B : Type 0} (lt : K → K → Bool) (bt : B → B → Bool) (l r : List (K × B)) : Type 0 where
   pub asc : Asc lt bt r
   pub covers : Covers bt l r
+
+-- ---- insertion of other values in the place of these, and lengths
+
+module _ {K B C : Type 0} (lt : K → K → Bool) (bt : B → B → Bool) (ct : C → C → Bool) (φ : B → C) where
+  abbrev pub across : K × B → K × C
+  across e = (e .0, φ (e .1))
+
+  keep-across : (c : Bool) (e x : K × B) → cond c (across e) (across x) ≡ across (cond c e x)
+  keep-across true e x = refl
+  keep-across false e x = refl
+
+  place-across : (a b : Bool) (e x : K × B) (r i : List (K × B)) → ct (φ (e .1)) (φ (x .1)) ≡ bt (e .1) (x .1)
+      → place lt ct a b (across e) (across x) (map across r) (map across i) ≡ map across (place lt bt a b e x r i)
+  place-across true b e x r i h = refl
+  place-across false true e x r i h = refl
+  place-across false false e x r i h = ap (λ t. t ∷ map across r) (ap (λ c. cond c (across e) (across x)) h ∙ keep-across (bt (e .1) (x .1)) e x)
+
+  -- where the two tests agree, the insertions do
+  pub insert-across : (e : K × B) (r : List (K × B)) → ((x : K × B) → Mem x r → ct (φ (e .1)) (φ (x .1)) ≡ bt (e .1) (x .1)) → insert lt ct (across e) (map across r) ≡ map across (insert lt bt e r)
+  unfolding insert
+  insert-across e [] h = refl
+  insert-across e (x ∷ r) h =
+      ap (place lt ct (lt (e .0) (x .0)) (lt (x .0) (e .0)) (across e) (across x) (map across r)) (insert-across e r (λ y m. h y (inr m)))
+      ∙ place-across (lt (e .0) (x .0)) (lt (x .0) (e .0)) e x r (insert lt bt e r) (h x (inl refl))
+
+module _ {K B : Type 0} (lt : K → K → Bool) (bt : B → B → Bool) where
+  place-grows : (a b : Bool) (e x : K × B) (r i : List (K × B)) → length r ≤ length i → length (x ∷ r) ≤ length (place lt bt a b e x r i)
+  place-grows true b e x r i h = omega arith
+  place-grows false true e x r i h = omega arith
+  place-grows false false e x r i h = omega arith
+
+  -- an insertion takes no entry away
+  pub insert-grows : (e : K × B) (r : List (K × B)) → length r ≤ length (insert lt bt e r)
+  unfolding insert
+  insert-grows e [] = omega arith
+  insert-grows e (x ∷ r) = place-grows (lt (e .0) (x .0)) (lt (x .0) (e .0)) e x r (insert lt bt e r) (insert-grows e r)
+
+-- ---- where an entry goes
+
+module _ {K B : Type 0} (lt : K → K → Bool) (bt : B → B → Bool) (oK : Order lt) where
+  -- behind the entries of lower keys
+  pub insert-past : (e : K × B) (a r : List (K × B)) → ((x : K × B) → Mem x a → lt (x .0) (e .0) ≡ true) → insert lt bt e (a ++ r) ≡ a ++ insert lt bt e r
+  unfolding insert
+  insert-past e [] r h = refl
+  insert-past e (x ∷ a) r h =
+      let l : lt (x .0) (e .0) ≡ true = h x (inl refl) in
+      rw (asym oK (x .0) (e .0) l, l) (ap (λ t. x ∷ t) (insert-past e a r (λ y m. h y (inr m))))
+
+  -- in front of the first higher key
+  pub insert-before : (e x : K × B) (r : List (K × B)) → lt (e .0) (x .0) ≡ true → insert lt bt e (x ∷ r) ≡ e ∷ x ∷ r
+  unfolding insert
+  insert-before e x r h = rw h
+
+  -- at its own key, where the better stays
+  pub insert-at : (e x : K × B) (r : List (K × B)) → e .0 ≡ x .0 → insert lt bt e (x ∷ r) ≡ cond (bt (e .1) (x .1)) e x ∷ r
+  unfolding insert
+  insert-at e x r h = rw (h, oK .irr (x .0))

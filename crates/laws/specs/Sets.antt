@@ -5,15 +5,15 @@ use mathlib.Core.Path.{_≡_, refl, sym, ap, ap₂, _∙_, subst}
 use mathlib.Core.Logic.{_⊎_, inl, inr, _↔_}
 use mathlib.Core.Bool.{Bool, true, false, not, _&&_, _||_, true≢false, false≢true, and-true, and-false}
 use Prim.Native.Nat.{ℕ, zero, suc, _+_, _-_, _*_, _/_, _%_, _^_, _≤_, _<_, zero-le, suc-le-suc, min, max}
-use native.Mathlib.Nat.{le-of-suc-le-suc, not-suc-le-zero, le-refl, le-trans, le-of-lt, zero-lt-suc, div-one, mod-lt, div-add-mod', pow-suc, div-eq-of-lt, lt-of-lt-of-le, lt-of-le-of-lt, min-le-left, zero-div, mul-div-cancel, mul-mod-left, eq-or-lt-of-le, mod-eq-of-lt, mul-assoc, sub-le, add-zero, one-mul, zero-mul, pos-of-ne-zero}
-use native.Mathlib.Numerals.{one-add, add-one}
+use native.Mathlib.Nat.{le-of-suc-le-suc, not-suc-le-zero, le-refl, zero-lt-suc, div-one, mod-lt, div-add-mod', pow-suc, div-eq-of-lt, lt-of-lt-of-le, lt-of-le-of-lt, min-le-left, mul-div-cancel, mul-mod-left, eq-or-lt-of-le, mod-eq-of-lt, mul-assoc, sub-le, add-zero, one-mul, zero-mul, pos-of-ne-zero}
+use native.Mathlib.Numerals.{one-add}
 use native.Mathlib.Omega.{arith}
 use borrow.Author.Tests.{eqb-true, eqb-false, eq-eqb, ne-eqb, not-true, not-false}
 use lib.Dec.{eqb, eqb·zero-suc, eqb·suc-zero, eqb·suc-suc}
 use lib.Arith.{lt-one, digits-div, digits-mod, digits-lt}
-use lib.Pow.{pow-pos, pow-mono, pow-lt, shr-shr, split}
-use lib.Bits.{bitAnd, bitOr, bitXor, and-step, or-step, xor-step, differ, and-le-l, and-le-r, and-shr, or-shr, xor-shr, and-lt, or-lt, xor-lt, or-disjoint, and-self}
-use lib.Count.{trailingZeros, under, trailing-le}
+use lib.Pow.{pow-pos, pow-mono, pow-lt, shr-shr}
+use lib.Bits.{bitAnd, bitOr, bitXor, and-step, or-step, xor-step, differ, and-le-l, and-le-r, and-lt, or-lt, xor-lt, or-disjoint, and-self, xor-self}
+use lib.Count.{trailingZeros, under, trailing-le, trailing-of-zero}
 use Rattle.laws.specs.Terms.{digit, odd, bit, setOf}
 
 -- ---- one digit
@@ -473,6 +473,40 @@ first n {x} {y} hx hy p =
       mine = refl;
       theirs = unlike-not (bit x (trailingZeros n (bitXor x y))) (bit y (trailingZeros n (bitXor x y))) (sym (bit-xor x y (trailingZeros n (bitXor x y))) ∙ trailing-at n (bitXor x y) l);
     }
+
+-- the lowest bit in which they differ is known by what it has
+pub lowest-bit : (n m : ℕ) {x y : ℕ} (v : Bool) → x < 2 ^ n → y < 2 ^ n → ((j : ℕ) → j < m → bit x j ≡ bit y j) → bit x m ≡ v → bit y m ≡ not v → bit x (trailingZeros n (bitXor x y)) ≡ v
+unfolding first
+lowest-bit n m {x} {y} v hx hy same mine theirs = by (below-or-not d m) (below-or-not m d)
+  where
+    d : ℕ
+    d = trailingZeros n (bitXor x y)
+
+    not-like : (b : Bool) → b ≡ not b → ⊥
+    not-like true e = true≢false e
+    not-like false e = false≢true e
+
+    apart : unlike v (not v) ≡ true
+    apart = go v
+      where
+        go : (v : Bool) → unlike v (not v) ≡ true
+        go true = refl
+        go false = refl
+
+    some : 0 < bitXor x y
+    some = pos-of-ne-zero (λ e. true≢false (sym (bit-xor x y m ∙ ap₂ unlike mine theirs ∙ apart) ∙ zero-bits e m))
+
+    f : First n x y (bit x d)
+    f = first n hx hy some
+
+    by : (d < m) ⊎ (m ≤ d) → (m < d) ⊎ (d ≤ m) → bit x d ≡ v
+    by (inl l) k = absurd (not-like (bit x d) (same d l ∙ f .theirs))
+    by (inr l) (inl k) = absurd (not-like v (sym mine ∙ f .agree m k ∙ theirs))
+    by (inr l) (inr k) = let e : d ≡ m = omega arith in ap (bit x) e ∙ mine
+
+-- equal words differ in no bit below n
+pub no-lowest : (n x : ℕ) → x < 2 ^ n → bit x (trailingZeros n (bitXor x x)) ≡ false
+no-lowest n x h = rw (xor-self x, trailing-of-zero n) (bit-beyond n n h (le-refl n))
 
 -- ---- tests of a word against 0, as the code makes them
 

@@ -1,8 +1,8 @@
 -- Tests as Bool equations (`a ≡ true`, `a ≡ false`): case work, facts out of `&&`, `||` and `not` and back, tests for some number
 -- below a bound, and the bridges to the tests of numbers. Rests on Terms.
-use mathlib.Core.Path.{_≡_, refl, sym, ap, _∙_}
+use mathlib.Core.Path.{_≡_, refl, sym, _∙_}
 use mathlib.Core.Bool.{Bool, true, false, not, true≢false, _||_, _&&_, or-assoc, or-comm, or-true, and-true, and-or-distrib-right}
-use Prim.Native.Nat.{ℕ, zero, suc, _+_, _≤_, _<_}
+use Prim.Native.Nat.{ℕ, zero, suc, _+_, _<_}
 use native.Mathlib.Omega.{arith}
 use borrow.Author.Tests.{ltb-true, ltb-false, eqb-true, lt-ltb, le-ltb, eq-eqb}
 use lib.Dec.{eqb, ltb}
@@ -57,16 +57,6 @@ or-none h k = rw (h, k)
 pub not-out : (a : Bool) → not a ≡ true → a ≡ false
 not-out true h = clash h refl
 not-out false h = refl
-
-pub not-same : (a b : Bool) → not a ≡ not b → a ≡ b
-not-same true true h = refl
-not-same true false h = clash refl (sym h)
-not-same false true h = clash refl h
-not-same false false h = refl
-
-pub nots : (a b : Bool) → (not a && not b) ≡ not (a || b)
-nots true b = refl
-nots false b = refl
 
 pub or-left-comm : (a b c : Bool) → (a || (b || c)) ≡ (b || (a || c))
 or-left-comm true true c = refl

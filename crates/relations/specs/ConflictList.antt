@@ -3,7 +3,7 @@
 use mathlib.Core.Path.{_≡_, refl, sym, ap, subst, _∙_}
 use mathlib.Core.Logic.{_↔_, _⊎_, inl, inr}
 use mathlib.Core.Bool.{Bool, true, false, not, cond, _||_, _&&_}
-use mathlib.Core.List.{List, [], _∷_, _++_}
+use mathlib.Core.List.{List, [], _∷_}
 use Prim.Native.Nat.{ℕ, zero, suc, _+_, _≤_, _<_}
 use native.Mathlib.Omega.{arith}
 use borrow.Author.Tests.{eqb-true, eq-eqb}
@@ -11,10 +11,9 @@ use lib.Dec.{eqb, ltb}
 use Rattle.laws.specs.Terms.{Mem, each, anyOf, range, Sorted, next}
 use Rattle.laws.specs.Tests.{clash, and-out, and-in, or-out, or-in-left, or-in-right, not-out}
 use Rattle.laws.specs.Orders.{ltb-order, next-first, next-same}
-use Rattle.laws.specs.Lists.{mem-left, mem-right, mem-append, each-out, each-in, anyOf-out, anyOf-in, range-out, range-in, range-sorted, sorted-append, sorted-each}
+use Rattle.laws.specs.Lists.{mem-left, mem-right, mem-append, each-out, each-in, anyOf-out, anyOf-in, range-in, range-sorted, sorted-append, sorted-each}
 use Rattle.form.specs.declared.Body.{Body}
-use Rattle.form.specs.declared.Block.{Block}
-use Rattle.form.specs.Conflict.{Edge, block, exitsBy, exits, isTest, condition, touches, opposes, denies, contradict, Contradict, Onward, Clean, clean, leads, Pair, secondOf, assigned, crossed, assignmentPair, edgePair, pairsOf, conflicts, Assigned, Crossed, Holds, ascends}
+use Rattle.form.specs.Conflict.{Edge, block, exitsBy, exits, isTest, condition, touches, opposes, denies, contradict, Onward, Clean, clean, leads, Pair, secondOf, assigned, crossed, assignmentPair, edgePair, pairsOf, conflicts, Assigned, Crossed, Holds, ascends}
 use Rattle.form.specs.Conflict.Clean.{here, onward}
 use Rattle.relations.specs.Conditions.{contradict-says}
 
@@ -55,7 +54,7 @@ module _ (body : Body) (w : Onward body) where
     abbrev v : ℕ
     v = condition body e .variable
 
-    assigned-says : (b : ℕ) → (assigned body b e ≡ true) ↔ Assigned body b e
+    pub assigned-says : (b : ℕ) → (assigned body b e ≡ true) ↔ Assigned body b e
     unfolding assigned
     assigned-says b = (out, into)
       where
@@ -74,7 +73,7 @@ module _ (body : Body) (w : Onward body) where
         into : Assigned body b e → (denies body b e && (eqb b (e .0) || anyOf (λ o. leads body o e) (exits body b))) ≡ true
         into h = and-in (h .0) (joined (h .1))
 
-    crossed-out : (b : ℕ) (o : ℕ × ℕ) → Mem o (exits body b) → crossed body b o e ≡ true → Crossed body (b, o .0) e
+    pub crossed-out : (b : ℕ) (o : ℕ × ℕ) → Mem o (exits body b) → crossed body b o e ≡ true → Crossed body (b, o .0) e
     unfolding crossed opposes
     crossed-out b o m h =
         let (p, c) = and-out (isTest body b && isTest body (e .0) && contradict (condition body (b, o .0)) (condition body e)) _ h in
@@ -82,7 +81,7 @@ module _ (body : Body) (w : Onward body) where
         let (x, y) = and-out (isTest body b) _ t in
         (x, y, (contradict-says (condition body (b, o .0)) (condition body e)) .0 k, (o .1, m, (clean-says body w v (o .1) (e .0) real) .0 c))
 
-    crossed-in : (b way : ℕ) (h : Crossed body (b, way) e) → crossed body b (way, h .3 .0) e ≡ true
+    pub crossed-in : (b way : ℕ) (h : Crossed body (b, way) e) → crossed body b (way, h .3 .0) e ≡ true
     unfolding crossed opposes
     crossed-in b way (x, y, k, (t, m, c)) =
         and-in (and-in (and-in x y) ((contradict-says (condition body (b, way)) (condition body e)) .1 k)) ((clean-says body w v t (e .0) real) .1 c)

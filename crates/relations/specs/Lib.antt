@@ -1,4 +1,5 @@
--- Laws of the relations of document 01, and the count of a loop in closed form. No definition here is trusted.
+-- Laws of the relations of document 01, the count of a loop in closed form, and the laws of conditions, effects, clean paths and the conflict list. No
+-- definition here is trusted.
 pub mod Relations
 pub mod Steps
 pub mod Loops
@@ -7,5 +8,6 @@ pub mod PairTest
 pub mod Blocks
 pub mod Effects
 pub mod ConflictList
+pub mod Listed
 pub mod Joined
 pub mod Accepted

@@ -8,9 +8,8 @@ use native.Mathlib.Omega.{arith}
 use borrow.Author.Tests.{eqb-true, eqb-false, ltb-true, ltb-false, leb-true, leb-false, le-leb, lt-leb}
 use lib.Dec.{T, eqb, ltb, leb}
 use lib.IntN.{ℤ, pos}
-use lib.Signed.{ltZ, leZ}
 use Rattle.laws.specs.Whole.{up, dn, no-dn, ltZ-true, leZ-true, lt-ltZ, le-ltZ, le-leZ, lt-leZ}
-use Rattle.form.specs.Relation.{eqZ, meets}
+use Rattle.form.specs.Relation.{meets}
 use Rattle.relations.specs.Relations.{eqZ-true, eq-eqZ, ne-eqZ}
 
 -- ---- an answer that is 0 where nothing is as asked, and else is as asked

@@ -1,34 +1,34 @@
 -- Theorem 4 and the two ways, for any preference and costs. What the sweep's machine passes from b are b's tails with their open edges (`passed-tails`), so the row built
 -- from the rows above is the row by definition (`sweep-row`), and row 0 holds the first conflict-free route of the preferred weight, or nothing when
--- there is none (`row-zero`). The full walk counts the conflict-free beginnings and finds the same route, or stops over the budget (`walk-route`).
+-- there is none (`row-zero`). The full walk counts the conflict-free beginnings and finds the same route, or stops over the budget (`walk-routes`).
 -- Rests on Table, Walk, Forward, Backward and Passes.
 use mathlib.Core.Path.{_≡_, refl, sym, ap, ap₂, subst, _∙_}
-use mathlib.Core.Logic.{_⊎_, inl, inr}
-use mathlib.Core.Bool.{Bool, true, false, not, cond, _||_, _&&_, and-false}
+use mathlib.Core.Logic.{inl, inr}
+use mathlib.Core.Bool.{Bool, true, false, not, cond, _&&_, and-false}
 use mathlib.Core.List.{List, [], _∷_, _++_, map, map-map, append-nil}
-use mathlib.Core.Option.{Option, none, some}
-use Prim.Native.Nat.{ℕ, zero, suc, _<_}
+use mathlib.Core.Option.{none, some}
+use Prim.Native.Nat.{ℕ, suc, _<_}
 use native.Mathlib.Omega.{arith}
-use borrow.Author.Tests.{le-ltb}
+use borrow.Author.Tests.{eqb-true, le-ltb}
 use lib.Dec.{eqb, ltb}
 use lib.ListN.{length, length-map}
-use Rattle.laws.specs.Terms.{Mem, only, each, anyOf}
+use Rattle.laws.specs.Terms.{Mem, only, each}
 use Rattle.laws.specs.Tests.{is-false, clash, and-out}
 use Rattle.laws.specs.Orders.{Order, Choice, pair-order, ltb-order}
-use Rattle.laws.specs.Lists.{only-same, only-swap, only-map, each-same, map-in, map-out, anyOf-out}
+use Rattle.laws.specs.Lists.{only-out, only-same, only-swap, only-map, map-same, each-same, map-in, map-out, anyOf-out}
 use Rattle.laws.specs.Rows.{put}
 use Rattle.form.specs.declared.Body.{Body}
-use Rattle.form.specs.Conflict.{Edge, Pair, Onward}
+use Rattle.form.specs.Conflict.{Edge, Pair, Onward, secondOf, same, listed}
 use Rattle.relations.specs.ConflictList.{exits-ordered}
-use Rattle.theory.specs.Route.{Path, paths, beginnings, conflict, tails, routes, weighed, best, bestRoute, walked}
-use Rattle.theory.specs.Row.{Key, keyBefore, same, listed, bare, openEdges, addKey, keys, ofKey, found, rowOf, openTails, Entry, entryOf, row}
-use Rattle.theory.specs.Machine.{Val, better, Machine, Forward, Ordered, passed, passedFrom, built}
+use Rattle.theory.specs.Route.{Path, lastBlock, paths, conflict, tails, routes, weighed, best, bestRoute, walked}
+use Rattle.theory.specs.Row.{Key, keyBefore, bare, openEdges, addKey, keys, ofKey, found, rowOf, openTails}
+use Rattle.theory.specs.Machine.{Val, better, Machine, Forward, passedFrom, built}
 use Rattle.theory.specs.Table.{built-row}
-use Rattle.theory.specs.Walk.{visits, whole, within, walk, tally, walk-answer}
+use Rattle.theory.specs.Walk.{visits, whole, within, carry, carried, walk, tally, given, walk-answer}
 use Rattle.theory.specs.Edges.{noEdges, edges-none}
 use Rattle.theory.specs.Forward.{allowed, onMachine, forward}
 use Rattle.theory.specs.Backward.{Listing, readBack, stepBack, backMachine, backward}
-use Rattle.theory.specs.Passes.{freely, visits-are, visits-begin, visits-whole, passed-are, paths-lead, beginnings-lead}
+use Rattle.theory.specs.Passes.{freely, visits-are, visits-begin, wholes, visits-whole, passed-are, paths-lead, beginnings-lead}
 
 -- ---- a list whose keys are all one: its row has one entry, the best
 
@@ -95,8 +95,8 @@ module _ (body : Body) (list : List Pair) where
   none-listed : (e : Edge) → listed list 0 e ≡ false
   unfolding listed
   none-listed e = is-false _ (λ h.
-      let (p, m, k) = anyOf-out (λ p. same (p .second, p .outcome) e && ltb (p .first) 0) list h in
-      clash (and-out (same (p .second, p .outcome) e) _ k .1) (le-ltb (p .first) 0 (omega arith)))
+      let (p, m, k) = anyOf-out (λ p. same (secondOf p) e && ltb (p .first) 0) list h in
+      clash (and-out (same (secondOf p) e) _ k .1) (le-ltb (p .first) 0 (omega arith)))
 
   -- no first is in a block below 0
   none-open : (p : Path) → openEdges body list 0 p ≡ noEdges
@@ -139,19 +139,32 @@ module _ (body : Body) (w : Onward body) (cost : ℕ → ℕ → ℕ) where
       ∙ ap length (sym (only-map free (λ (e : ℕ × Val). e .1 .1) everywhere) ∙ ap (only free) (visits-begin body cost (body .count) 0))
 
   -- and the whole ones among them are the routes
-  pub visits-routes : whole (body .count) (visits M (body .count) 0 noEdges) ≡ map (weighed body cost) (routes body)
+  pub visits-routes : wholes body cost (visits M (body .count) 0 noEdges) ≡ map (weighed body cost) (routes body)
   unfolding tails
   visits-routes =
-      ap (whole (body .count)) visited
+      ap (wholes body cost) visited
       ∙ ap (map (λ (e : ℕ × Val). e .1)) (only-swap (λ (e : ℕ × Val). eqb (suc (e .0)) (body .count)) (λ (e : ℕ × Val). free (e .1 .1)) everywhere)
-      ∙ sym (only-map (λ (v : Val). free (v .1)) (λ (e : ℕ × Val). e .1) (only (λ (e : ℕ × Val). eqb (suc (e .0)) (body .count)) everywhere))
+      ∙ sym (only-map (λ (v : Val). free (v .1)) (λ (e : ℕ × Val). e .1) (whole (body .count) everywhere))
       ∙ ap (only (λ (v : Val). free (v .1))) (visits-whole body cost (body .count) 0)
       ∙ only-map (λ (v : Val). free (v .1)) (weighed body cost) (paths body (body .count) 0)
 
-  -- over the budget, or the number of conflict-free beginnings and the first route of the preferred weight
-  pub walk-route : (prefers : ℕ → ℕ → Bool) → Choice prefers → (budget : ℕ)
-      → walk M (tally prefers (body .count) budget) (body .count) 0 noEdges (λ v. v) (0, none) ≡ within budget (walked body) (bestRoute body cost prefers)
-  unfolding bestRoute
-  walk-route prefers ch budget =
-      walk-answer prefers ch M budget (body .count) 0 noEdges
-      ∙ ap₂ (λ n l. within budget n (best prefers l)) visits-walked visits-routes
+  -- what is carried along the routes, and made of it at the last block
+  module _ {C X : Type 0} (advance : Edge → C → C) (finish : ℕ × C → ℕ × X) (c : C) where
+    given-routes : given advance finish (body .count) c (visits M (body .count) 0 noEdges) ≡ map (λ p. finish (lastBlock body, carry advance c p)) (routes body)
+    given-routes =
+        map-same (λ e. finish (carried advance c e)) (λ e. finish (lastBlock body, carry advance c (e .1 .1))) (whole (body .count) (visits M (body .count) 0 noEdges))
+        (λ e m. ap (λ b. finish (b, carry advance c (e .1 .1))) (ends-last (e .0) (eqb-true (suc (e .0)) (body .count) (only-out (λ (e : ℕ × Val). eqb (suc (e .0)) (body .count)) (visits M (body .count) 0 noEdges) e m .0))))
+        ∙ sym (map-map (λ (v : Val). finish (lastBlock body, carry advance c (v .1))) (λ (e : ℕ × Val). e .1) (whole (body .count) (visits M (body .count) 0 noEdges)))
+        ∙ ap (map (λ (v : Val). finish (lastBlock body, carry advance c (v .1)))) visits-routes
+        ∙ map-map (λ (v : Val). finish (lastBlock body, carry advance c (v .1))) (weighed body cost) (routes body)
+      where
+        ends-last : (b : ℕ) → suc b ≡ body .count → b ≡ lastBlock body
+        ends-last b e = omega arith
+
+    -- over the budget, or the number of conflict-free beginnings and the first best of what the routes give
+    pub walk-routes : (prefers : ℕ → ℕ → Bool) → Choice prefers → (budget : ℕ)
+        → walk M advance (tally prefers finish (body .count) budget) (body .count) 0 noEdges c (0, none)
+        ≡ within budget (walked body) (best prefers (map (λ p. finish (lastBlock body, carry advance c p)) (routes body)))
+    walk-routes prefers ch budget =
+        walk-answer M prefers advance finish budget ch (body .count) 0 noEdges c
+        ∙ ap₂ (λ n l. within budget n (best prefers l)) visits-walked given-routes

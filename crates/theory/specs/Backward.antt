@@ -1,19 +1,20 @@
 -- Theorem 3 for the machine that reads tails from their end. Its state is the set of open edges; a step in front is dropped exactly where it conflicts with an open
 -- edge or with itself. It drops a tail exactly when the tail has a conflict, and otherwise comes to the open edges as Row defines them (`backward`).
 -- Rests on Steps, Edges and, of the conflict list, on what `Listing` asks.
-use mathlib.Core.Path.{_≡_, refl, sym, ap, ap₂, subst, _∙_}
-use mathlib.Core.Bool.{Bool, true, false, not, cond, _||_, _&&_, or-false, or-true, and-true, and-false, and-assoc, or-assoc}
+use mathlib.Core.Path.{_≡_, refl, sym, subst, _∙_}
+use mathlib.Core.Bool.{Bool, true, false, not, cond, _||_, _&&_, or-false, or-true, and-true, and-false}
 use mathlib.Core.List.{List, [], _∷_}
 use mathlib.Core.Option.{Option, none, some}
-use Prim.Native.Nat.{ℕ, zero, suc, _+_, _<_}
-use Rattle.laws.specs.Terms.{Mem, any, bit, setOf}
-use Rattle.laws.specs.Tests.{split, clash, both, and-out, and-in, or-out, or-in-left, or-in-right, is-false}
+use Prim.Native.Nat.{ℕ, _<_}
+use Rattle.laws.specs.Terms.{Mem}
+use Rattle.laws.specs.Tests.{both, and-out, and-in, or-out, or-in-left, or-in-right}
 use Rattle.form.specs.declared.Body.{Body}
-use Rattle.form.specs.Conflict.{Edge, Pair, exits, isTest, condition, touches, opposes, denies, Onward, Clean, conflicts}
+use Rattle.form.specs.Conflict.{Edge, Pair, exits, isTest, condition, opposes, denies, Onward, Clean, same, listed}
 use Rattle.theory.specs.Route.{Path, conflict}
-use Rattle.theory.specs.Row.{Key, same, listed, bare, openEdges}
+use Rattle.theory.specs.Row.{Key, bare, openEdges}
 use Rattle.theory.specs.Machine.{Machine}
-use Rattle.theory.specs.Steps.{Way, Real, Leads, wipes, against, same-refl, same-eq, real-inside, real-way, first-real, hit, hit-nil, hit-of, hit-out, conflict-nil, conflict-cons, bare-nil, bare-cons, bare-real, bare-clean}
+use Rattle.relations.specs.Listed.{Way, Real, denies-test, same-refl, same-eq}
+use Rattle.theory.specs.Steps.{Leads, wipes, against, real-inside, real-way, hit, hit-of, hit-out, conflict-nil, conflict-cons, bare-nil, bare-cons, bare-real, bare-clean}
 use Rattle.theory.specs.Edges.{has, edgesOf, anyEdge, noEdges, has-edgesOf, any-edge-in, any-edge-out, edges-same, edges-none}
 
 -- ---- the machine
@@ -52,11 +53,6 @@ pub record Listing (body : Body) (list : List Pair) : Type 0 where
   pub tests : (b : ℕ) (e : Edge) → listed list b e ≡ true → isTest body (e .0) ≡ true
   pub live : (x e : Edge) (u : ℕ) → Mem (x .1, u) (exits body (x .0)) → Real body e → against body x e ≡ true → Clean body (condition body e .variable) u (e .0)
       → listed list u e ≡ true
-
--- a denied edge is a test's
-denies-tests : (body : Body) (b : ℕ) (e : Edge) → denies body b e ≡ true → isTest body (e .0) ≡ true
-unfolding denies
-denies-tests body b e h = and-out (isTest body (e .0)) _ h .0
 
 mingle : (r n s k low high : Bool) → (low ≡ true → high ≡ true) → (low ≡ true → s ≡ true → n ≡ true) → ((r && high || n && s) && k && low) ≡ (((s || r) && k) && low)
 mingle r n s k false high h g = simp and-false
@@ -116,7 +112,7 @@ module _ (body : Body) (w : Onward body) (list : List Pair) (L : Listing body li
       from : (denies body (x .0) x || hit body (against body x) p) ≡ true → anyEdge (body .count) clashing ≡ true
       from k = or-out (denies body (x .0) x) _ k
           (λ d. any-edge-in (body .count) clashing x (real-inside body w x real) (real-way body x real)
-          (or-in-right (has s x && opposes body x x) (and-in (or-in-right (has s x) (and-in (denies-tests body (x .0) x d) (same-refl x))) d)))
+          (or-in-right (has s x && opposes body x x) (and-in (or-in-right (has s x) (and-in (denies-test body (x .0) x d) (same-refl x))) d)))
           (λ k. let (e, a, r) = hit-out body (against body x) p k in
           let g = bare-real body u t p e l r in
           let h = real-inside body w e g in

@@ -2,15 +2,19 @@
 -- Rests on the laws' Sets and on Row's keys.
 use mathlib.Core.Path.{_≡_, refl, sym, ap, ap₂, _∙_}
 use mathlib.Core.Logic.{_⊎_, inl, inr}
-use mathlib.Core.Bool.{Bool, true, false, not, cond, _||_, _&&_}
-use Prim.Native.Nat.{ℕ, zero, suc, _<_}
+use mathlib.Core.Bool.{Bool, true, false, not, cond, _||_}
+use Prim.Native.Nat.{ℕ, _^_, _≤_, _<_}
+use native.Mathlib.Nat.{lt-of-lt-of-le}
+use borrow.Author.Tests.{ne-eqb}
+use lib.Bits.{bitOr, or-lt}
+use lib.Pow.{pow-mono}
 use lib.Dec.{eqb}
 use Rattle.laws.specs.Terms.{any, bit, setOf}
-use Rattle.laws.specs.Tests.{any-in, any-out, any-same, or-out, or-in-left, or-in-right}
-use Rattle.laws.specs.Sets.{bit-setOf, bit-none, setOf-ext, setOf-zero}
+use Rattle.laws.specs.Tests.{both, clash, any-in, any-out, or-out, or-in-left, or-in-right}
+use Rattle.laws.specs.Sets.{ext, setOf-lt, bit-setOf, bit-setOf-beyond, bit-none, bit-or, setOf-ext, setOf-zero, zero-bits, some-bit, test-true, below-or-not}
 use Rattle.form.specs.Conflict.{Edge}
 use Rattle.theory.specs.Row.{Key}
-use Rattle.theory.specs.Steps.{Way}
+use Rattle.relations.specs.Listed.{Way}
 
 -- e is in the set
 unfoldable pub has : Key → Edge → Bool
@@ -63,3 +67,40 @@ edges-same n f g h = λ i. (
 
 pub edges-none : (n : ℕ) (f : Edge → Bool) → ((e : Edge) → f e ≡ false) → edgesOf n f ≡ noEdges
 edges-none n f h = λ i. ((setOf-zero n (λ k. f (k, 1))) .1 (λ k l. h (k, 1)) i, (setOf-zero n (λ k. f (k, 2))) .1 (λ k l. h (k, 2)) i)
+
+-- ---- as words of m bits
+
+module _ (n m : ℕ) (enough : n ≤ m) (f : Edge → Bool) (jumps falls : ℕ) (j-fits : jumps < 2 ^ m) (f-fits : falls < 2 ^ m)
+    (jump-bits : (k : ℕ) → k < n → bit jumps k ≡ f (k, 1)) (fall-bits : (k : ℕ) → k < n → bit falls k ≡ f (k, 2))
+    (no-jumps : (k : ℕ) → n ≤ k → bit jumps k ≡ false) (no-falls : (k : ℕ) → n ≤ k → bit falls k ≡ false) where
+  one-word : (g : ℕ → Bool) (s : ℕ) → s < 2 ^ m → ((k : ℕ) → k < n → bit s k ≡ g k) → ((k : ℕ) → n ≤ k → bit s k ≡ false) → s ≡ setOf n g
+  one-word g s h inside beyond = ext m h (lt-of-lt-of-le (setOf-lt n g) (pow-mono enough)) (λ k l. by k (below-or-not k n))
+    where
+      by : (k : ℕ) → (k < n) ⊎ (n ≤ k) → bit s k ≡ bit (setOf n g) k
+      by k (inl l) = inside k l ∙ sym (bit-setOf n g k l)
+      by k (inr l) = beyond k l ∙ sym (bit-setOf-beyond n g k l)
+
+  -- two words with the edges of a test, and no others, are its set
+  pub edges-words : (jumps, falls) ≡ edgesOf n f
+  edges-words = λ i. (one-word (λ k. f (k, 1)) jumps j-fits jump-bits no-jumps i, one-word (λ k. f (k, 2)) falls f-fits fall-bits no-falls i)
+
+  -- some edge has the test: one of the words is not 0
+  pub any-edge-words : anyEdge n f ≡ not (eqb (bitOr jumps falls) 0)
+  any-edge-words = both _ _ to from
+    where
+      bits : (k : ℕ) → bit (bitOr jumps falls) k ≡ (bit jumps k || bit falls k)
+      bits k = bit-or jumps falls k
+
+      to : anyEdge n f ≡ true → not (eqb (bitOr jumps falls) 0) ≡ true
+      to h = ap not (ne-eqb (bitOr jumps falls) 0 (λ z.
+          let (k, l, p) = any-out n (λ k. f (k, 1) || f (k, 2)) h in
+          clash p (sym (ap₂ _||_ (jump-bits k l) (fall-bits k l)) ∙ sym (bits k) ∙ zero-bits z k)))
+
+      at : (k : ℕ) → (k < n) ⊎ (n ≤ k) → bit (bitOr jumps falls) k ≡ true → anyEdge n f ≡ true
+      at k (inl l) p = any-in n (λ k. f (k, 1) || f (k, 2)) k l (sym (ap₂ _||_ (jump-bits k l) (fall-bits k l)) ∙ sym (bits k) ∙ p)
+      at k (inr l) p = clash (sym (bits k) ∙ p) (ap₂ _||_ (no-jumps k l) (no-falls k l))
+
+      from : not (eqb (bitOr jumps falls) 0) ≡ true → anyEdge n f ≡ true
+      from h =
+          let (k, l, p) = some-bit m (or-lt m jumps falls j-fits f-fits) (test-true h) in
+          at k (below-or-not k n) p

@@ -1,21 +1,31 @@
 -- The worked example of document 01: its list, routes, rows, weight, route bytes, walked and kept, by computation.
 -- Rests on Route, Row and form's Conflict.
 use mathlib.Core.Path.{_≡_, refl, ap, _∙_}
+use mathlib.Core.Logic.{inl, inr}
+use mathlib.Core.Bool.{Bool, true, false, cond, true≢false, false≢true}
 use mathlib.Core.List.{List, [], _∷_, map}
-use mathlib.Core.Option.{Option, none, some}
+use mathlib.Core.Option.{none, some}
 use Prim.Native.Nat.{ℕ}
+use native.Mathlib.Omega.{arith}
+use borrow.Author.Tests.{ne-eqb}
+use lib.Dec.{eqb}
 use lib.IntN.{ℤ, pos}
+use mir.Syntax.{w32}
+use mir.Val.{SFits}
 use Rattle.laws.specs.Terms.{heavier, range, setOf}
 use Rattle.form.specs.declared.Body.{Body}
 use Rattle.form.specs.declared.Block.{Block}
 use Rattle.form.specs.declared.Effect.{Effect}
-use Rattle.form.specs.Conflict.{Pair, block, effectsBelow, effectsOf, touches, lastOn, exits, isTest, condition, contradict, opposes, denies, clean, assigned, crossed, pairsOf, conflicts, conflictBytes}
-use Rattle.theory.specs.Route.{Path, stepCost, paths, conflict, tails, routes, weight, best, bestRoute, wayOf, routeBytes, beginnings, walked}
-use Rattle.theory.specs.Row.{Entry, listed, bare, openEdges, addKey, keys, rowOf, openTails, leftBy, row, longest, kept, highest, crowded}
+use Rattle.form.specs.Conflict.{Pair, block, effectsBelow, effectsOf, touches, lastOn, exits, isTest, condition, contradict, opposes, denies, clean, assigned, crossed, pairsOf, conflicts, conflictBytes, listed}
+use Rattle.theory.specs.Route.{stepCost, paths, conflict, tails, routes, weight, best, bestRoute, wayOf, routeBytes, beginnings, walked}
+use Rattle.theory.specs.Row.{Entry, bare, openEdges, addKey, keys, rowOf, openTails, leftBy, row, longest, kept, highest, crowded}
+use Rattle.theory.specs.Run.{State, Does, Iteration}
+use Rattle.theory.specs.Run.Do.{done, does}
+use Rattle.theory.specs.Run.Iteration.{ends, goes}
 
--- cost, jump
-abbrev goes : ℕ → ℕ → ℕ → Block
-goes cost effects jump = record { cost = cost; ending = 1; jump = jump; fall = 0; variable = 0; relation = 0; constant = pos 0; effects = effects }
+-- cost, number of effects, jump
+abbrev goesTo : ℕ → ℕ → ℕ → Block
+goesTo cost effects jump = record { cost = cost; ending = 1; jump = jump; fall = 0; variable = 0; relation = 0; constant = pos 0; effects = effects }
 
 -- cost, variable, relation, constant, jump, fall
 abbrev asks : ℕ → ℕ → ℕ → ℤ → ℕ → ℕ → Block
@@ -29,7 +39,7 @@ abbrev pub example : Body
 example = record {
   counter = record { initial = pos 0; step = pos 1; relation = 2; limit = pos 10 };
   count = 8;
-  blocks = asks 7 0 3 (pos 40) 2 1 ∷ goes 3 1 3 ∷ goes 11 1 3 ∷ asks 2 0 2 (pos 20) 4 5 ∷ goes 25 0 5 ∷ asks 4 1 0 (pos 0) 7 6 ∷ goes 18 0 7
+  blocks = asks 7 0 3 (pos 40) 2 1 ∷ goesTo 3 1 3 ∷ goesTo 11 1 3 ∷ asks 2 0 2 (pos 20) 4 5 ∷ goesTo 25 0 5 ∷ asks 4 1 0 (pos 0) 7 6 ∷ goesTo 18 0 7
       ∷ record { cost = 1; ending = 0; jump = 0; fall = 0; variable = 0; relation = 0; constant = pos 0; effects = 0 } ∷ [];
   total = 2;
   effects = sets 1 (pos 0) ∷ sets 1 (pos 1) ∷ [];
@@ -103,3 +113,30 @@ none-crowded = refl
 pub crowded-is : crowded example (stepCost example) heavier ≡ none
 unfolding crowded
 crowded-is = ap (λ l. highest (row example l (stepCost example) heavier) 8) pairs-are ∙ none-crowded
+
+-- an iteration that starts with 50 in every variable takes the heaviest route
+abbrev fifty : State
+fifty = record { value = λ v. pos 50; fits = λ v. record { sfits = omega arith } }
+
+abbrev flagged : State
+flagged = record { value = λ v. cond (eqb v 1) (pos 1) (pos 50); fits = λ v. by (eqb v 1) }
+  where
+    by : (c : Bool) → SFits w32 (cond c (pos 1) (pos 50))
+    by true = record { sfits = omega arith }
+    by false = record { sfits = omega arith }
+
+flag : Does (sets 1 (pos 1)) fifty flagged
+flag = record { constant = λ h. refl; others = λ v n. ap (λ c. cond c (pos 1) (pos 50)) (ne-eqb v 1 n) }
+
+no-test : _≡_ {A = ℕ} 1 3 → ⊥
+no-test h = omega arith
+
+pub iteration : Iteration example 0 fifty ((0, 1) ∷ (2, 1) ∷ (3, 2) ∷ (5, 2) ∷ (6, 1) ∷ []) flagged
+unfolding block effectsBelow effectsOf exits
+iteration =
+    goes (1, 2) done (record { exit = inl refl; jump = λ h k. refl; fall = λ h k. absurd (true≢false k) })
+    (goes (1, 3) (does flag done) (record { exit = inl refl; jump = λ h k. refl; fall = λ h k. absurd (no-test h) })
+    (goes (2, 5) done (record { exit = inr (inl refl); jump = λ h k. absurd (false≢true k); fall = λ h k. refl })
+    (goes (2, 6) done (record { exit = inr (inl refl); jump = λ h k. absurd (false≢true k); fall = λ h k. refl })
+    (goes (1, 7) done (record { exit = inl refl; jump = λ h k. refl; fall = λ h k. absurd (no-test h) })
+    (ends refl done)))))

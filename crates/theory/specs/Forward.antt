@@ -2,16 +2,17 @@
 -- It allows a path exactly when the path has no conflict (`forward`). Rests on Steps and Edges.
 use mathlib.Core.Path.{_≡_, refl, sym, ap, _∙_}
 use mathlib.Core.Bool.{Bool, true, false, not, cond, _||_, _&&_}
-use mathlib.Core.List.{List, [], _∷_}
+use mathlib.Core.List.{[], _∷_}
 use mathlib.Core.Option.{Option, none, some}
-use Prim.Native.Nat.{ℕ, _<_}
+use Prim.Native.Nat.{ℕ}
 use Rattle.laws.specs.Tests.{both, clash, Or·sort}
 use Rattle.form.specs.declared.Body.{Body}
 use Rattle.form.specs.Conflict.{Edge, exits, opposes, denies, Onward}
 use Rattle.theory.specs.Route.{Path, conflict}
 use Rattle.theory.specs.Row.{Key}
 use Rattle.theory.specs.Machine.{Machine}
-use Rattle.theory.specs.Steps.{Real, Leads, wipes, against, real-inside, real-way, hit, hit-nil, hit-cons, hit-or, hit-of, hit-out, conflict-nil, conflict-cons, bare-real}
+use Rattle.relations.specs.Listed.{Real}
+use Rattle.theory.specs.Steps.{Leads, wipes, real-inside, real-way, hit, hit-nil, hit-cons, hit-or, hit-of, hit-out, conflict-nil, conflict-cons, bare-real}
 use Rattle.theory.specs.Edges.{has, edgesOf, noEdges, has-edgesOf, has-none}
 
 -- ---- the machine

@@ -1,16 +1,26 @@
--- Routes, tails, rows and runs. Trusted definitions: Route, Row, Run.
+-- Routes, tails, rows and runs. Trusted definitions, in reading order: Route, Row, Run; Example shows them on document 01's body.
 pub mod Route
 pub mod Row
 pub mod Run
 pub mod Example
+-- The definitions read as document 01 words them.
+pub mod Readings
+-- For any machine: rows (theorem 1) and the walk (theorem 2).
 pub mod Machine
 pub mod RowLaws
 pub mod Table
 pub mod Walk
+-- The two machines of a body (theorem 3).
 pub mod Steps
 pub mod Edges
 pub mod Backward
 pub mod Forward
+pub mod Listing
+-- The answer (theorem 4), the bound (theorem 5), and both ways on words.
 pub mod Passes
 pub mod Answer
-pub mod Listing
+pub mod Bound
+pub mod Ties
+pub mod SweepWords
+pub mod WalkWords
+pub mod Main

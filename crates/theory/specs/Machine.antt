@@ -1,8 +1,8 @@
 -- A machine that reads paths from their end: it has a key for the empty path, and a step in front makes a new key or drops the path. For any machine and any
 -- costs: the paths that it passes, with key and weight, in order; and the rows built from the last block down by insertion. Rests on Route and the laws.
-use mathlib.Core.Path.{_≡_, refl, sym, ap, _∙_, subst}
+use mathlib.Core.Path.{_≡_, refl, ap, _∙_}
 use mathlib.Core.Logic.{_⊎_, inl, inr}
-use mathlib.Core.Bool.{Bool, true, false, not, cond}
+use mathlib.Core.Bool.{Bool, true, false, cond}
 use mathlib.Core.List.{List, [], _∷_, _++_}
 use mathlib.Core.Option.{Option, none, some}
 use Prim.Native.Nat.{ℕ, zero, suc, _+_, _-_, _≤_, _<_}
@@ -77,6 +77,11 @@ module _ {K B : Type 0} (lt : K → K → Bool) (bt : B → B → Bool) where
   unfoldable pub pour : (K → Option K) → (B → B) → List (K × B) → List (K × B) → List (K × B)
   pour s g [] r = r
   pour s g (e ∷ l) r = pour s g l (push (s (e .0)) (g (e .1)) r)
+
+  pub pour-append : (s : K → Option K) (g : B → B) (l m r : List (K × B)) → pour s g (l ++ m) r ≡ pour s g m (pour s g l r)
+  unfolding pour
+  pour-append s g [] m r = refl
+  pour-append s g (e ∷ l) m r = pour-append s g l m (push (s (e .0)) (g (e .1)) r)
 
 module _ {K : Type 0} (M : Machine K) (lt : K → K → Bool) (bt : Val → Val → Bool) where
   -- into the row r, the entries of the targets' rows, one way after another

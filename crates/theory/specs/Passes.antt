@@ -2,22 +2,21 @@
 -- does not drop, in the same order. For any machine on a body's graph. Rests on Walk, Machine and Route.
 use mathlib.Core.Path.{_≡_, refl, sym, ap, ap₂, subst, _∙_}
 use mathlib.Core.Logic.{_⊎_, inl, inr}
-use mathlib.Core.Bool.{Bool, true, false, not, cond}
-use mathlib.Core.List.{List, [], _∷_, _++_, map, map-append, map-map, append-nil}
+use mathlib.Core.Bool.{Bool, true, false, cond}
+use mathlib.Core.List.{List, [], _∷_, _++_, map, map-append, map-map}
 use mathlib.Core.Option.{Option, none, some}
-use Prim.Native.Nat.{ℕ, zero, suc, _+_, _-_}
+use Prim.Native.Nat.{ℕ, zero, suc, _+_, _≤_, _<_}
 use native.Mathlib.Omega.{arith}
-use borrow.Author.Tests.{eqb-true}
+use borrow.Author.Tests.{eqb-true, eq-eqb}
 use lib.Dec.{eqb}
-use lib.ListN.{length}
 use Rattle.laws.specs.Terms.{Mem, only, each}
-use Rattle.laws.specs.Lists.{only-none, only-same, only-swap, only-map, only-append, each-same, each-append, mem-append, each-out, map-out}
+use Rattle.laws.specs.Lists.{only-none, only-map, only-append, each-append, mem-append, each-out, map-out, mem-left, mem-right, each-in, map-in}
 use Rattle.laws.specs.Rows.{put, ext}
 use Rattle.form.specs.declared.Body.{Body}
-use Rattle.form.specs.Conflict.{Edge, exits}
+use Rattle.form.specs.Conflict.{Edge, exits, Onward}
 use Rattle.theory.specs.Route.{Path, lastBlock, paths, beginnings, weight, weighed}
-use Rattle.theory.specs.Machine.{Val, grow, Machine, base, spread, passed}
-use Rattle.theory.specs.Walk.{arrive, extend, ifAllowed, visitBy, visits, whole, whole-behind}
+use Rattle.theory.specs.Machine.{Val, grow, Machine, spread, passed}
+use Rattle.theory.specs.Walk.{arrive, extend, ifAllowed, visitBy, visits, whole}
 use Rattle.theory.specs.Steps.{Leads}
 use Rattle.theory.specs.Forward.{goesOn, allowed}
 use Rattle.theory.specs.Backward.{thenStep, readBack}
@@ -72,33 +71,46 @@ module _ (body : Body) (cost : ℕ → ℕ → ℕ) where
   visits-begin zero b = refl
   visits-begin (suc n) b = ap (λ t. [] ∷ t) (begin-by (λ t. visits free n t tt) (beginnings body n) (visits-begin n) b (exits body b))
 
-  whole-append : (l r : List (ℕ × Val)) → whole (body .count) (l ++ r) ≡ whole (body .count) l ++ whole (body .count) r
-  whole-append l r = ap (map (λ (e : ℕ × Val). e .1)) (only-append (λ (e : ℕ × Val). eqb (suc (e .0)) (body .count)) l r) ∙ map-append (λ (e : ℕ × Val). e .1) (only (λ (e : ℕ × Val). eqb (suc (e .0)) (body .count)) l) (only (λ (e : ℕ × Val). eqb (suc (e .0)) (body .count)) r)
+  -- the weights and paths of the whole ones
+  abbrev pub wholes : List (ℕ × Val) → List Val
+  wholes l = map (λ e. e .1) (whole (body .count) l)
+
+  abbrev ending : ℕ × Val → Bool
+  ending e = eqb (suc (e .0)) (body .count)
+
+  wholes-append : (l r : List (ℕ × Val)) → wholes (l ++ r) ≡ wholes l ++ wholes r
+  wholes-append l r = ap (map (λ (e : ℕ × Val). e .1)) (only-append ending l r) ∙ map-append (λ (e : ℕ × Val). e .1) (only ending l) (only ending r)
+
+  wholes-extend : (b way : ℕ) (l : List (ℕ × Val)) → wholes (map (extend free b way) l) ≡ map (grow (cost b way) (b, way)) (wholes l)
+  wholes-extend b way l =
+      ap (map (λ (e : ℕ × Val). e .1)) (only-map ending (extend free b way) l)
+      ∙ map-map (λ (e : ℕ × Val). e .1) (extend free b way) (only ending l)
+      ∙ sym (map-map (grow (cost b way) (b, way)) (λ (e : ℕ × Val). e .1) (only ending l))
 
   weigh-step : (x : Edge) (l : List Path) → map (grow (cost (x .0) (x .1)) x) (map (weighed body cost) l) ≡ map (weighed body cost) (map (λ p. x ∷ p) l)
   unfolding weight
   weigh-step x [] = refl
   weigh-step x (p ∷ l) = ap (λ t. (cost (x .0) (x .1) + weight cost (lastBlock body) p, x ∷ p) ∷ t) (weigh-step x l)
 
-  whole-by : (R : ℕ → List (ℕ × Val)) (P : ℕ → List Path) → ((t : ℕ) → whole (body .count) (R t) ≡ map (weighed body cost) (P t)) → (b : ℕ) (os : List (ℕ × ℕ))
-      → whole (body .count) (visitBy free (λ t u. R t) b tt os) ≡ map (weighed body cost) (each os (λ o. map (λ p. (b, o .0) ∷ p) (P (o .1))))
+  whole-by : (R : ℕ → List (ℕ × Val)) (P : ℕ → List Path) → ((t : ℕ) → wholes (R t) ≡ map (weighed body cost) (P t)) → (b : ℕ) (os : List (ℕ × ℕ))
+      → wholes (visitBy free (λ t u. R t) b tt os) ≡ map (weighed body cost) (each os (λ o. map (λ p. (b, o .0) ∷ p) (P (o .1))))
   whole-by R P h b [] = refl
   whole-by R P h b (o ∷ os) =
-      whole-append (map (extend free b (o .0)) (R (o .1))) (visitBy free (λ t u. R t) b tt os)
-      ∙ ap₂ _++_ (whole-behind (body .count) (grow (cost b (o .0)) (b, o .0)) (R (o .1)) ∙ ap (map (grow (cost b (o .0)) (b, o .0))) (h (o .1)) ∙ weigh-step (b, o .0) (P (o .1))) (whole-by R P h b os)
+      wholes-append (map (extend free b (o .0)) (R (o .1))) (visitBy free (λ t u. R t) b tt os)
+      ∙ ap₂ _++_ (wholes-extend b (o .0) (R (o .1)) ∙ ap (map (grow (cost b (o .0)) (b, o .0))) (h (o .1)) ∙ weigh-step (b, o .0) (P (o .1))) (whole-by R P h b os)
       ∙ sym (map-append (weighed body cost) (map (λ (p : Path). (b, o .0) ∷ p) (P (o .1))) (each os (λ o. map (λ p. (b, o .0) ∷ p) (P (o .1)))))
 
   ends-in : (b : ℕ) → suc b ≡ body .count → (cost b 0, []) ≡ weighed body cost []
   unfolding weight
   ends-in b e = let d : b ≡ lastBlock body = omega arith in ap (λ k. (cost k 0, [])) d
 
-  whole-cons : (c : Bool) (b : ℕ) (l : List (ℕ × Val)) (m : List Path) → eqb (suc b) (body .count) ≡ c → whole (body .count) l ≡ map (weighed body cost) m
-      → map (λ (e : ℕ × Val). e .1) (cond c (arrive free b ∷ only (λ (e : ℕ × Val). eqb (suc (e .0)) (body .count)) l) (only (λ (e : ℕ × Val). eqb (suc (e .0)) (body .count)) l))
+  whole-cons : (c : Bool) (b : ℕ) (l : List (ℕ × Val)) (m : List Path) → eqb (suc b) (body .count) ≡ c → wholes l ≡ map (weighed body cost) m
+      → map (λ (e : ℕ × Val). e .1) (cond c (arrive free b ∷ only ending l) (only ending l))
       ≡ map (weighed body cost) (cond c ([] ∷ []) [] ++ m)
   whole-cons true b l m h k = λ i. ends-in b (eqb-true (suc b) (body .count) h) i ∷ k i
   whole-cons false b l m h k = k
 
-  pub visits-whole : (n b : ℕ) → whole (body .count) (visits free n b tt) ≡ map (weighed body cost) (paths body n b)
+  pub visits-whole : (n b : ℕ) → wholes (visits free n b tt) ≡ map (weighed body cost) (paths body n b)
   unfolding visits paths
   visits-whole zero b = refl
   visits-whole (suc n) b = whole-cons _ b (visitBy free (λ t u. visits free n t u) b tt (exits body b)) _ refl (whole-by (λ t. visits free n t tt) (paths body n) (visits-whole n) b (exits body b))
@@ -151,7 +163,7 @@ module _ (body : Body) (cost : ℕ → ℕ → ℕ) where
         ap₂ _++_ (base-keyed _ b refl) (spread-keyed (λ t. passed M n t) (paths body n) (passed-are n) b (exits body b))
         ∙ sym (each-append (cond (eqb (suc b) (body .count)) ([] ∷ []) []) (each (exits body b) (λ o. map (λ p. (b, o .0) ∷ p) (paths body n (o .1)))) keyed)
 
--- ---- the listed paths are walks in the graph
+-- ---- the listed paths are the walks in the graph
 
 module _ (body : Body) where
   one-more : (b t : ℕ) (o : ℕ × ℕ) (q p : Path) → Mem o (exits body b) → p ≡ (b, o .0) ∷ q → Leads body (o .1) q t → Leads body b p t
@@ -183,3 +195,19 @@ module _ (body : Body) where
           → Mem p (cond (eqb (suc b) (body .count)) ([] ∷ []) []) ⊎ Mem p (each (exits body b) (λ o. map (λ p. (b, o .0) ∷ p) (paths body n (o .1)))) → Leads body b p (lastBlock body)
       go h (inl m) = ends _ b p refl m
       go h (inr m) = step h m
+
+module _ (body : Body) (w : Onward body) where
+  abbrev onward : ℕ → ℕ → List Path
+  onward n b = each (exits body b) (λ o. map (λ p. (b, o .0) ∷ p) (paths body n (o .1)))
+
+  -- a walk to the last block is a path
+  pub leads-path : (n b : ℕ) (p : Path) → b < body .count → body .count ≤ n + b → Leads body b p (lastBlock body) → Mem p (paths body n b)
+  unfolding paths
+  leads-path zero b p h k l = let z : ⊥ = omega arith in absurd z
+  leads-path (suc n) b [] h k l = mem-left [] (cond (eqb (suc b) (body .count)) ([] ∷ []) []) (onward n b) (subst (λ (c : Bool). Mem {A = Path} [] (cond c ([] ∷ []) [])) (sym (eq-eqb (suc b) (body .count) (omega arith))) (inl refl))
+  leads-path (suc n) b (x ∷ p) h k l =
+      let o : ℕ × ℕ = (x .1, l .0) in
+      mem-right (x ∷ p) (cond (eqb (suc b) (body .count)) ([] ∷ []) []) (onward n b)
+      (each-in (exits body b) (λ o. map (λ p. (b, o .0) ∷ p) (paths body n (o .1))) o (x ∷ p) (l .2)
+      (subst (λ (y : Edge). Mem (y ∷ p) (map (λ (p : Path). (b, x .1) ∷ p) (paths body n (l .0)))) (λ i. (sym (l .1) i, x .1))
+      (map-in (λ (p : Path). (b, x .1) ∷ p) (paths body n (l .0)) p (leads-path n (l .0) p (w .inside b o (l .2)) (omega (arith, w .above b o (l .2))) (l .3)))))

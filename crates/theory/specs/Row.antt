@@ -2,22 +2,15 @@
 use mathlib.Core.Bool.{Bool, not, cond, true, false, _||_, _&&_}
 use mathlib.Core.List.{List, [], _∷_, _++_, map}
 use mathlib.Core.Option.{Option, none, some}
-use Prim.Native.Nat.{ℕ, zero, suc, _+_, max}
-use lib.Dec.{eqb, ltb}
+use Prim.Native.Nat.{ℕ, zero, suc, max}
+use lib.Dec.{ltb}
 use lib.ListN.{length, take, replicate}
-use Rattle.laws.specs.Terms.{any, anyOf, each, only, range, pairb, setOf}
+use Rattle.laws.specs.Terms.{any, anyOf, each, only, pairb, setOf}
 use Rattle.form.specs.declared.Body.{Body}
-use Rattle.form.specs.Conflict.{Edge, Pair, condition, touches, conflicts}
+use Rattle.form.specs.Conflict.{Edge, Pair, condition, touches, same, listed, conflicts}
 use Rattle.theory.specs.Route.{Path, at, tails, weighed, best}
 
 -- ---- open edges
-
-abbrev pub same : Edge → Edge → Bool
-same x e = eqb (x .0) (e .0) && eqb (x .1) (e .1)
-
--- The list pairs e as second with a first in a block below b.
-unfoldable pub listed : List Pair → ℕ → Edge → Bool
-listed list b e = anyOf (λ p. same (p .second, p .outcome) e && ltb (p .first) b) list
 
 -- The edge e is in the tail, and no block of it up to e's, both included, has an effect on e's variable.
 unfoldable pub bare : Body → Path → Edge → Bool

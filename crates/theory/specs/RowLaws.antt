@@ -1,17 +1,17 @@
 -- The row by definition (`rowOf`: the different keys, ascending, and of each key the first of the preferred weight) is the ascending row that covers its list,
 -- with the preferred weight and then the first path as the better. So whatever is such a row is it. Rests on Row, Machine's order and the laws.
-use mathlib.Core.Path.{_≡_, refl, sym, ap, _∙_, subst}
+use mathlib.Core.Path.{_≡_, refl, sym, ap, _∙_}
 use mathlib.Core.Logic.{_⊎_, inl, inr}
 use mathlib.Core.Bool.{Bool, true, false, not, cond, _||_}
 use mathlib.Core.List.{List, [], _∷_, _++_, map}
 use mathlib.Core.Option.{Option, none, some}
-use Prim.Native.Nat.{ℕ, zero, suc}
+use Prim.Native.Nat.{ℕ}
 use Rattle.laws.specs.Terms.{Mem, Sorted, only, each}
 use Rattle.laws.specs.Tests.{split, clash}
-use Rattle.laws.specs.Orders.{Order, Choice, asym, ntrans, pair-order, next-first}
+use Rattle.laws.specs.Orders.{Order, Choice, asym, ntrans, pair-order}
 use Rattle.laws.specs.Lists.{each-out, each-in}
-use Rattle.laws.specs.Rows.{Asc, Covers, Dom, IsRow, row-unique}
-use Rattle.theory.specs.Route.{Path, choose, best}
+use Rattle.laws.specs.Rows.{Asc, IsRow, row-unique}
+use Rattle.theory.specs.Route.{choose, best}
 use Rattle.theory.specs.Row.{placeKey, addKey, keys, ofKey, found, rowOf}
 use Rattle.theory.specs.Machine.{Val, first, first-order, better, ahead}
 
@@ -82,9 +82,6 @@ module _ {K : Type 0} (lt : K → K → Bool) (oK : Order lt) where
 module _ (prefers : ℕ → ℕ → Bool) (ch : Choice prefers) where
   pub better-order : Order (better prefers)
   better-order = pair-order prefers first (ch .order) first-order
-
-  pub not-preferred : (x e : Val) → better prefers x e ≡ false → prefers (x .0) (e .0) ≡ false
-  not-preferred x e p = split (prefers (x .0) (e .0)) (λ h. clash (next-first (ch .order) (x .0) (e .0) (first (x .1) (e .1)) h) p) (λ h. h)
 
   pub behind : (x d : Val) → prefers (x .0) (d .0) ≡ false → first (x .1) (d .1) ≡ false → better prefers x d ≡ false
   behind x d p q = split (prefers (d .0) (x .0)) (λ h. rw (p, h)) (λ h. rw (p, h) q)

@@ -1,48 +1,21 @@
 -- The steps of a body's paths: what a path with one more step in front is, for walks in the graph, conflict, and the edges that a path leaves bare.
--- Rests on Route, Row and form's Conflict, whose tests it uses as they are: it does not look into them.
+-- Rests on Route, Row and form's Conflict, whose tests it hardly looks into.
 use mathlib.Core.Path.{_≡_, refl, sym, ap, ap₂, subst, _∙_}
-use mathlib.Core.Logic.{_⊎_, inl, inr}
-use mathlib.Core.Bool.{Bool, true, false, not, _||_, _&&_, or-assoc, or-false, and-true, and-or-distrib-right}
-use mathlib.Core.List.{List, [], _∷_}
-use Prim.Native.Nat.{ℕ, zero, suc, _≤_, _<_}
+use mathlib.Core.Bool.{Bool, true, false, not, _||_, _&&_, or-false, and-true, and-or-distrib-right}
+use mathlib.Core.List.{[], _∷_}
+use Prim.Native.Nat.{ℕ, zero, suc, _<_}
 use native.Mathlib.Omega.{arith}
-use borrow.Author.Tests.{eqb-true}
-use lib.Dec.{eqb}
 use lib.ListN.{length}
-use Rattle.laws.specs.Terms.{Mem, any, before}
-use Rattle.laws.specs.Tests.{both, four, nor, nor-swap, and-out, and-in, or-out, or-no, or-none, not-out, any-in, any-out, any-and, any-or, any-same, eqb-same}
+use Rattle.laws.specs.Terms.{Mem, any}
+use Rattle.laws.specs.Tests.{four, nor, nor-swap, and-out, and-in, or-no, not-out, any-in, any-out, any-and, any-or, any-same}
 use Rattle.form.specs.declared.Body.{Body}
-use Rattle.form.specs.declared.Block.{Block}
-use Rattle.form.specs.Conflict.{Edge, block, exitsBy, exits, isTest, condition, touches, opposes, denies, Onward, Clean}
+use Rattle.form.specs.Conflict.{Edge, exits, condition, touches, opposes, denies, Onward, Clean, same}
 use Rattle.form.specs.Conflict.Clean.{here, onward}
-use Rattle.theory.specs.Route.{Path, at, overwritten, conflict}
-use Rattle.theory.specs.Row.{same, bare}
-
--- ---- edges
-
-pub same-refl : (x : Edge) → same x x ≡ true
-same-refl x = and-in (eqb-same (x .0)) (eqb-same (x .1))
-
-pub same-eq : (x e : Edge) → same x e ≡ true → x ≡ e
-same-eq x e h = let (p, q) = and-out (eqb (x .0) (e .0)) _ h in λ i. (eqb-true (x .0) (e .0) p i, eqb-true (x .1) (e .1) q i)
-
-abbrev pub Way : ℕ → Type 0
-Way w = (w ≡ 1) ⊎ (w ≡ 2)
-
-ways : (ending jump fall : ℕ) (o : ℕ × ℕ) → Mem o (exitsBy ending jump fall) → Way (o .0)
-ways zero j f o m = absurd m
-ways (suc zero) j f o (inl p) = inl (ap (λ (q : ℕ × ℕ). q .0) p)
-ways (suc (suc zero)) j f o (inl p) = inl (ap (λ (q : ℕ × ℕ). q .0) p)
-ways (suc (suc zero)) j f o (inr (inl p)) = inr (ap (λ (q : ℕ × ℕ). q .0) p)
-ways (suc (suc (suc zero))) j f o (inl p) = inl (ap (λ (q : ℕ × ℕ). q .0) p)
-ways (suc (suc (suc zero))) j f o (inr (inl p)) = inr (ap (λ (q : ℕ × ℕ). q .0) p)
-ways (suc (suc (suc (suc n)))) j f o m = absurd m
+use Rattle.relations.specs.Listed.{same-refl, same-eq, Way, way-of, Real}
+use Rattle.theory.specs.Route.{Path, at, conflict}
+use Rattle.theory.specs.Row.{bare}
 
 module _ (body : Body) where
-  pub way-of : (b : ℕ) (o : ℕ × ℕ) → Mem o (exits body b) → Way (o .0)
-  unfolding exits
-  way-of b o m = ways (block body b .ending) (block body b .jump) (block body b .fall) o m
-
   -- block b has an effect on e's variable
   abbrev pub wipes : ℕ → Edge → Bool
   wipes b e = touches body b (condition body e .variable)
@@ -51,25 +24,21 @@ module _ (body : Body) where
   abbrev pub against : Edge → Edge → Bool
   against x e = opposes body x e || denies body (x .0) e
 
-  -- an exit of the body
-  abbrev pub Real : Edge → Type 0
-  Real e = (t : ℕ) × Mem (e .1, t) (exits body (e .0))
-
-  pub real-inside : Onward body → (e : Edge) → Real e → e .0 < body .count
+  pub real-inside : Onward body → (e : Edge) → Real body e → e .0 < body .count
   real-inside w e (t, m) = omega (arith, w .above (e .0) (e .1, t) m, w .inside (e .0) (e .1, t) m)
 
-  pub real-way : (e : Edge) → Real e → Way (e .1)
-  real-way e (t, m) = way-of (e .0) (e .1, t) m
+  pub real-way : (e : Edge) → Real body e → Way (e .1)
+  real-way e (t, m) = way-of body (e .0) (e .1, t) m
 
   -- the steps p lead from b to t
   abbrev pub Leads : ℕ → Path → ℕ → Type 0
   Leads b [] t = b ≡ t
   Leads b (x ∷ p) t = (u : ℕ) × (x .0 ≡ b) × Mem (x .1, u) (exits body b) × Leads u p t
 
-  pub first-real : (b t : ℕ) (x : Edge) (p : Path) → Leads b (x ∷ p) t → Real x
+  pub first-real : (b t : ℕ) (x : Edge) (p : Path) → Leads b (x ∷ p) t → Real body x
   first-real b t x p w = (w .0, rw (w .1) (w .2))
 
-  pub real-at : (b t : ℕ) (p : Path) (q : ℕ) → Leads b p t → q < length p → Real (at p q)
+  pub real-at : (b t : ℕ) (p : Path) (q : ℕ) → Leads b p t → q < length p → Real body (at p q)
   real-at b t [] q w h = let z : ⊥ = omega arith in absurd z
   real-at b t (x ∷ p) zero w h = first-real b t x p w
   real-at b t (x ∷ p) (suc q) w h = real-at (w .0) t p q (w .3) (omega arith)
@@ -129,8 +98,8 @@ module _ (body : Body) where
       let (s, c) = and-out (same (at p q) e) _ k in
       (q, b, (s, not-out _ c))
 
-  pub bare-real : (b t : ℕ) (p : Path) (e : Edge) → Leads b p t → bare body p e ≡ true → Real e
-  bare-real b t p e w h = let (q, l, m) = bare-out p e h in subst Real (same-eq (at p q) e (m .0)) (real-at b t p q w l)
+  pub bare-real : (b t : ℕ) (p : Path) (e : Edge) → Leads b p t → bare body p e ≡ true → Real body e
+  bare-real b t p e w h = let (q, l, m) = bare-out p e h in subst (Real body) (same-eq (at p q) e (m .0)) (real-at b t p q w l)
 
   -- a bare edge of a set is a hit, and every hit is one
   pub hit-of : (S : Edge → Bool) (p : Path) (e : Edge) → bare body p e ≡ true → S e ≡ true → hit S p ≡ true

@@ -1,6 +1,6 @@
 -- Theorem 1, for any machine, preference and costs: the row built from the rows of the blocks above is the row by definition (`built-row`), and so is every row
 -- of the table built from the last block down (`table-row`). Rests on Machine, RowLaws and the laws' Rows.
-use mathlib.Core.Path.{_≡_, refl, sym, ap, _∙_, subst}
+use mathlib.Core.Path.{_≡_, refl, sym, subst}
 use mathlib.Core.Logic.{_⊎_, inl, inr}
 use mathlib.Core.Bool.{Bool, true, false, cond}
 use mathlib.Core.List.{List, [], _∷_, _++_, append-nil, append-assoc}
@@ -8,15 +8,15 @@ use mathlib.Core.Option.{Option, none, some}
 use Prim.Native.Nat.{ℕ, zero, suc, _+_, _-_, _≤_, _<_}
 use native.Mathlib.Omega.{arith}
 use native.Mathlib.Nat.{le-of-suc-le-suc, not-suc-le-zero, le-of-lt, le-refl}
-use lib.Dec.{eqb, ltb}
+use lib.Dec.{eqb}
 use lib.ListN.{getD}
-use Rattle.laws.specs.Terms.{Mem, Sorted}
+use Rattle.laws.specs.Terms.{Mem}
 use Rattle.laws.specs.Orders.{Order, Choice, lexb-cons}
 use Rattle.laws.specs.Lists.{mem-left, mem-right, mem-append}
-use Rattle.laws.specs.Rows.{Covers, insert, IsRow, covers-refl, covers-trans, covers-append, covers-cons, covers-insert, asc-insert, dom-refl, put, ext, ext-covers}
+use Rattle.laws.specs.Rows.{Covers, IsRow, covers-refl, covers-trans, covers-append, covers-cons, covers-insert, asc-insert, dom-refl, put, ext, ext-covers}
 use Rattle.form.specs.Conflict.{Edge}
 use Rattle.theory.specs.Row.{rowOf}
-use Rattle.theory.specs.Machine.{Val, grow, edgeBefore, edge-order, better, Machine, Forward, Ordered, base, spread, passed, passedFrom, passed-eq, passed-sorted, push, pour, fill, built, table}
+use Rattle.theory.specs.Machine.{Val, grow, edgeBefore, edge-order, better, Machine, Forward, Ordered, base, spread, passedFrom, passed-eq, passed-sorted, push, pour, fill, built, table}
 use Rattle.theory.specs.RowLaws.{better-order, row-is, row-eq}
 
 module _ {K B : Type 0} (lt : K → K → Bool) (bt : B → B → Bool) (oK : Order lt) (oB : Order bt) where

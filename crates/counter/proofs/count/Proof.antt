@@ -1,7 +1,6 @@
 -- `counter::count` meets its contract.
 use borrow.Author.Needs.{needs}
-use mathlib.Core.Path.{_≡_, refl, sym, _∙_, subst}
-use Prim.Native.Nat.{ℕ, _<_, _≤_}
+use mathlib.Core.Path.{refl, sym, _∙_, subst}
 use mir.Facts.{toZ-ofZ}
 use Rattle.form.specs.Counter.{Count}
 use Rattle.relations.specs.Steps.{Found, found-none, found-some}

@@ -1,9 +1,7 @@
 -- `counter::downward` meets its contract.
 use borrow.Author.Needs.{needs}
 use mathlib.Core.Path.{_≡_, sym, _∙_, ap}
-use native.Mathlib.Omega.{arith}
-use Prim.Native.Nat.{_<_}
-use lib.IntN.{ℤ, negℤ, _-ℤ_}
+use lib.IntN.{negℤ, _-ℤ_}
 use mir.Facts.{toZ-ofZ, sfits-lit}
 use mir.Syntax.{w32, w64}
 use mir.Val.{SFits, toZ, ofZ}

@@ -1,7 +1,7 @@
 -- `counter::exactly` meets its contract.
 use mathlib.Core.Path.{_≡_, sym, _∙_, ap}
 use mathlib.Core.Bool.{Bool, cond}
-use Prim.Native.Nat.{ℕ, _/_, _%_, _<_}
+use Prim.Native.Nat.{_/_, _%_, _<_}
 use native.Mathlib.Nat.{zero-mod, zero-div}
 use native.Mathlib.Omega.{arith}
 use lib.Dec.{eqb}

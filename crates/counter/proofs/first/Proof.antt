@@ -1,16 +1,16 @@
 -- `counter::first` meets its contract.
 use borrow.Author.Needs.{needs}
-use mathlib.Core.Path.{_≡_, refl, sym, _∙_, ap}
+use mathlib.Core.Path.{_≡_, sym, _∙_, ap}
 use mathlib.Core.Bool.{Bool, true, cond}
-use Prim.Native.Nat.{ℕ, _+_, _<_, _≤_}
+use Prim.Native.Nat.{ℕ}
 use native.Mathlib.Omega.{arith}
 use borrow.Author.Tests.{not-true, not-false}
-use lib.IntN.{ℤ, pos}
+use lib.IntN.{pos}
 use mir.Facts.{toZ-ofZ}
 use mir.Syntax.{w64}
 use mir.Val.{toZ, ofZ}
 use Rattle.form.specs.Relation.{meets}
-use Rattle.laws.specs.Whole.{up, dn, no-dn, is-pos, ltZ-true, leZ-true}
+use Rattle.laws.specs.Whole.{up, no-dn, is-pos, ltZ-true, leZ-true}
 use Rattle.relations.specs.Steps.{later, later-never, first}
 use Rattle.counter.proofs.first.Statement.{statement}
 use Rattle.counter.proofs.first.Tie as tie

@@ -1,6 +1,6 @@
 -- `counter::not_below` meets its contract.
 use mathlib.Core.Path.{_≡_, refl, _∙_, ap}
-use Prim.Native.Nat.{_+_, _-_, _/_, _^_, _<_}
+use Prim.Native.Nat.{_-_, _/_}
 use native.Mathlib.Nat.{div-le-self}
 use native.Mathlib.Omega.{arith}
 use lib.IntN.{ℤ, pos, _-ℤ_}

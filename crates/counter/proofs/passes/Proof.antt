@@ -1,13 +1,12 @@
 -- `counter::passes` meets its contract.
 use borrow.Author.Needs.{needs}
-use mathlib.Core.Path.{_≡_, sym, _∙_, ap}
-use Prim.Native.Nat.{_<_}
+use mathlib.Core.Path.{_≡_, _∙_, ap}
 use native.Mathlib.Omega.{arith}
 use lib.IntN.{ℤ, pos}
 use mir.Facts.{toZ-ofZ}
 use mir.Syntax.{w32}
 use mir.Val.{toZ, ofZ}
-use Rattle.laws.specs.Whole.{up, dn, same-whole, ltZ-true, ltZ-false}
+use Rattle.laws.specs.Whole.{same-whole, ltZ-true, ltZ-false}
 use Rattle.relations.specs.Loops.{countOf}
 use Rattle.counter.proofs.passes.Statement.{statement}
 use Rattle.counter.proofs.passes.Tie as tie

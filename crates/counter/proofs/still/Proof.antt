@@ -2,7 +2,6 @@
 use borrow.Author.Needs.{needs}
 use mathlib.Core.Path.{_≡_, sym, _∙_, ap}
 use mathlib.Core.Bool.{Bool, cond}
-use Prim.Native.Nat.{ℕ}
 use Rattle.form.specs.Relation.{meets}
 use Rattle.laws.specs.Signed.{widened}
 use Rattle.relations.specs.Loops.{countOf}

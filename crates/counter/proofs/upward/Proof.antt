@@ -1,7 +1,7 @@
 -- `counter::upward` meets its contract.
 use borrow.Author.Needs.{needs}
 use mathlib.Core.Path.{_≡_, sym, _∙_}
-use lib.IntN.{ℤ, pos, _-ℤ_}
+use lib.IntN.{_-ℤ_}
 use mir.Facts.{sfits-lit}
 use mir.Syntax.{w32, w64}
 use mir.Val.{SFits, toZ, ofZ}

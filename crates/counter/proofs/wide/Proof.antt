@@ -2,7 +2,6 @@
 use mir.Facts.{toZ-ofZ, sfits-widen}
 use mir.Syntax.{w32, w64}
 use mir.Val.{SFits}
-use lib.IntN.{ℤ}
 use Rattle.counter.proofs.wide.Statement.{statement}
 use Rattle.counter.proofs.wide.Tie as tie
 

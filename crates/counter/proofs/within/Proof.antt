@@ -1,7 +1,7 @@
 -- `counter::within` meets its contract.
 use borrow.Author.Needs.{needs}
 use mathlib.Core.Path.{_≡_, sym, _∙_}
-use Prim.Native.Nat.{_/_, _<_, _≤_}
+use Prim.Native.Nat.{_/_}
 use native.Mathlib.Omega.{arith}
 use mir.Facts.{toZ-ofZ}
 use Rattle.laws.specs.Whole.{up}

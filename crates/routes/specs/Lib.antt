@@ -1,0 +1,2 @@
+-- The definitions and laws of the upper layer.
+pub mod Plan

@@ -1,0 +1,1 @@
+// The upper layer: the full walk and the sweep. It calls form, counter and conflict and knows them by their contracts alone.

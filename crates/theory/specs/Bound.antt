@@ -1,0 +1,212 @@
+-- Theorem 5: the route of every iteration has no conflict (`iteration-free`), so it is one of the routes, and a run of no more iterations than the count costs at most the
+-- count times the heaviest weight (`run-bound`). Rests on Run, Steps, Passes and relations.
+use mathlib.Core.Path.{_≡_, refl, sym, ap, subst, _∙_}
+use mathlib.Core.Logic.{inl, inr}
+use mathlib.Core.Bool.{Bool, true, false, not, cond, _||_, _&&_}
+use mathlib.Core.List.{List, [], _∷_, map}
+use mathlib.Core.Option.{Option, none, some}
+use Prim.Native.Nat.{ℕ, suc, _+_, _*_, _≤_, _<_}
+use native.Mathlib.Nat.{suc-mul, le-trans, mul-le-mul-right}
+use native.Mathlib.Omega.{arith}
+use borrow.Author.Tests.{eqb-true, eqb-false, ltb-false}
+use lib.Dec.{eqb}
+use lib.IntN.{ℤ}
+use lib.ListN.{length}
+use Rattle.laws.specs.Terms.{Mem, anyOf, heavier}
+use Rattle.laws.specs.Tests.{clash, and-out, or-out, or-no, is-false, not-out, or-none}
+use Rattle.laws.specs.Orders.{Choice, asym, ntrans, heaviest}
+use Rattle.laws.specs.Lists.{map-in, only-in}
+use Rattle.form.specs.declared.Body.{Body}
+use Rattle.form.specs.declared.Effect.{Effect}
+use Rattle.form.specs.Relation.{meets, opposite}
+use Rattle.form.specs.Conflict.{Edge, Condition, block, effectsOf, isTest, condition, met, opposes, denies, touches, later, lastOn, refuses, Onward, Sound}
+use Rattle.relations.specs.Relations.{opposite-is}
+use Rattle.relations.specs.Conditions.{contradict-says}
+use Rattle.theory.specs.Route.{Path, lastBlock, paths, conflict, tails, routes, weight, weighed, choose, best, bestRoute}
+use Rattle.theory.specs.Run.{State, Does, Do, holdsAt, Leaves, Iteration, Run, runCost}
+use Rattle.theory.specs.Run.Do.{done, does}
+use Rattle.theory.specs.Run.Iteration.{ends, goes}
+use Rattle.theory.specs.Run.Run.{rests, repeats}
+use Rattle.theory.specs.Passes.{leads-path}
+use Rattle.relations.specs.Listed.{denies-test, opposes-out}
+use Rattle.theory.specs.Steps.{Leads, wipes, against, hit, hit-nil, hit-cons, conflict-nil, conflict-cons}
+
+-- ---- effects
+
+-- what no effect is on stays
+stays : (v : ℕ) {l : List Effect} {s t : State} → Do l s t → anyOf (λ a. eqb (a .variable) v) l ≡ false → t .value v ≡ s .value v
+stays v done h = refl
+stays v (does {a = a} {l = l} d r) h =
+    let (n, k) = or-no (eqb (a .variable) v) _ h in
+    stays v r k ∙ d .others v (λ e. eqb-false (a .variable) v n (sym e))
+
+later-none : (x y : Option Effect) → later x y ≡ none → (x ≡ none) × (y ≡ none)
+later-none x none h = (h, refl)
+later-none x (some a) h = let z : _≡_ {A = ℕ} 0 1 = cc in absurd (omega arith)
+
+untouched : (v : ℕ) (l : List Effect) → lastOn v l ≡ none → anyOf (λ a. eqb (a .variable) v) l ≡ false
+unfolding lastOn
+untouched v [] h = refl
+untouched v (a ∷ l) h = go (eqb (a .variable) v) (later-none (cond (eqb (a .variable) v) (some a) none) (lastOn v l) h) (untouched v l)
+  where
+    go : (c : Bool) → (cond c (some a) none ≡ none) × (lastOn v l ≡ none) → (lastOn v l ≡ none → anyOf (λ a. eqb (a .variable) v) l ≡ false) → (c || anyOf (λ a. eqb (a .variable) v) l) ≡ false
+    go true (p, k) f = let z : _≡_ {A = ℕ} 0 1 = cc in absurd (omega arith)
+    go false (p, k) f = f k
+
+-- the last effect decides
+last-of : (c : Bool) (o : Option Effect) (v : ℕ) (b a : Effect) (l : List Effect) (r s t : State) → eqb (b .variable) v ≡ c → lastOn v l ≡ o → Does b r s → Do l s t
+    → ((e : Effect) → lastOn v l ≡ some e → e .how ≡ 1 → t .value v ≡ e .constant) → later (cond c (some b) none) o ≡ some a → a .how ≡ 1 → t .value v ≡ a .constant
+last-of c (some e) v b a l r s t p q d m f h k = f a (q ∙ h) k
+last-of true none v b a l r s t p q d m f h k =
+    let e : b ≡ a = cc in
+    let w : b .variable ≡ v = eqb-true (b .variable) v p in
+    stays v m (untouched v l q) ∙ ap (s .value) (sym w) ∙ d .constant (ap (λ (x : Effect). x .how) e ∙ k) ∙ ap (λ (x : Effect). x .constant) e
+last-of false none v b a l r s t p q d m f h k = let z : _≡_ {A = ℕ} 0 1 = cc in absurd (omega arith)
+
+settled : (v : ℕ) {l : List Effect} {s t : State} → Do l s t → (a : Effect) → lastOn v l ≡ some a → a .how ≡ 1 → t .value v ≡ a .constant
+unfolding lastOn
+settled v done a h k = let z : _≡_ {A = ℕ} 0 1 = cc in absurd (omega arith)
+settled v (does {a = b} {l = l} {r = r} {s = s} {t = t} d m) a h k = last-of _ (lastOn v l) v b a l r s t refl refl d m (settled v m) h k
+
+-- ---- blocks
+
+-- relations are known
+abbrev Known : Body → Type 0
+Known body = (b : ℕ) → block body b .relation ≤ 5
+
+module _ (body : Body) where
+  -- the condition of e, in the state s
+  abbrev metIn : State → Edge → Bool
+  metIn s e = met (condition body e) (s .value (condition body e .variable))
+
+  -- what the effects of b deny is not met after them
+  refused : (o : Option Effect) (c : Condition) (x : ℤ) → ((a : Effect) → o ≡ some a → a .how ≡ 1 → x ≡ a .constant) → refuses o c ≡ true → met c x ≡ false
+  refused none c x f h = clash h refl
+  refused (some a) c x f h =
+      let (k, n) = and-out (eqb (a .how) 1) _ h in
+      ap (met c) (f a refl (eqb-true (a .how) 1 k)) ∙ not-out (met c (a .constant)) n
+
+  denied : (b : ℕ) (e : Edge) (s t : State) → Do (effectsOf body b) s t → denies body b e ≡ true → metIn t e ≡ false
+  unfolding denies
+  denied b e s t d h =
+      refused (lastOn (condition body e .variable) (effectsOf body b)) (condition body e) (t .value (condition body e .variable)) (settled (condition body e .variable) d) (and-out (isTest body (e .0)) _ h .1)
+
+  unwiped : (b : ℕ) (e : Edge) (s t : State) → Do (effectsOf body b) s t → wipes body b e ≡ false → metIn t e ≡ metIn s e
+  unfolding touches
+  unwiped b e s t d h = ap (met (condition body e)) (stays (condition body e .variable) d h)
+
+  -- a block that tests is left by a way whose condition is met
+  left : Known body → (b : ℕ) (s : State) (o : ℕ × ℕ) → Leaves body b s o → isTest body b ≡ true → metIn s (b, o .0) ≡ true
+  unfolding isTest condition
+  left k b s o l h = by (holdsAt body b s) refl
+    where
+      r : ℕ
+      r = block body b .relation
+
+      x : ℤ
+      x = s .value (block body b .variable)
+
+      at : (w : ℕ) → w ≡ o .0 → meets (cond (eqb w 1) r (opposite r)) x (block body b .constant) ≡ true → meets (cond (eqb (o .0) 1) r (opposite r)) x (block body b .constant) ≡ true
+      at w e g = rw (← e) g
+
+      by : (c : Bool) → holdsAt body b s ≡ c → meets (cond (eqb (o .0) 1) r (opposite r)) x (block body b .constant) ≡ true
+      by true e = at 1 (sym (l .jump (eqb-true (block body b .ending) 3 h) e)) e
+      by false e = at 2 (sym (l .fall (eqb-true (block body b .ending) 3 h) e)) (opposite-is r (k b) x (block body b .constant) ∙ ap not e)
+
+  -- edges of tests whose conditions are not met
+  abbrev Barred : (Edge → Bool) → State → Type 0
+  Barred S s = (e : Edge) → S e ≡ true → (isTest body (e .0) ≡ true) × (metIn s e ≡ false)
+
+  -- what the effects of b leave
+  still-barred : (S : Edge → Bool) (b : ℕ) (s t : State) → Do (effectsOf body b) s t → Barred S s → Barred (λ e. S e && not (wipes body b e)) t
+  still-barred S b s t d h e k =
+      let (p, n) = and-out (S e) _ k in
+      let (u, m) = h e p in
+      (u, unwiped b e s t d (not-out (wipes body b e) n) ∙ m)
+
+  -- what a step contradicts is not met after it
+  now-barred : Known body → (b : ℕ) (s t : State) (o : ℕ × ℕ) → Do (effectsOf body b) s t → Leaves body b t o → Barred (against body (b, o .0)) t
+  now-barred k b s t o d l e h = or-out (opposes body (b, o .0) e) _ h
+      (λ p. let (v, w, c) = opposes-out body (b, o .0) e p in
+      let r = (contradict-says (condition body (b, o .0)) (condition body e)) .0 c in
+      (w, is-false (metIn t e) (λ m. r .none-meets-both (t .value (condition body e .variable)) (subst (λ x. met (condition body (b, o .0)) (t .value x) ≡ true) (r .alike) (left k b t o l v)) m)))
+      (λ p. (denies-test body b e p, denied b e s t d p))
+
+  -- an iteration takes no barred edge
+  no-hit : Known body → (S : Edge → Bool) {b : ℕ} {s t : State} {p : Path} → Iteration body b s p t → Barred S s → hit body S p ≡ false
+  no-hit k S (ends e d) h = hit-nil body S
+  no-hit k S (goes {b = b} {s = s} {t = t} {p = p} o d l r) h =
+      hit-cons body S (b, o .0) p
+      ∙ or-none (is-false (S (b, o .0) && not (wipes body b (b, o .0))) (λ a. let (u, m) = still-barred S b s t d h (b, o .0) a in clash (left k b t o l u) m))
+      (no-hit k (λ e. S e && not (wipes body b e)) r (still-barred S b s t d h))
+
+  pub iteration-free : Known body → {b : ℕ} {s t : State} {p : Path} → Iteration body b s p t → conflict body p ≡ false
+  iteration-free k (ends e d) = conflict-nil body
+  iteration-free k (goes {b = b} {s = s} {t = t} {p = p} o d l r) =
+      conflict-cons body (b, o .0) p
+      ∙ or-none (is-false (denies body b (b, o .0)) (λ a. clash (left k b t o l (denies-test body b (b, o .0) a)) (denied b (b, o .0) s t d a)))
+      (or-none (no-hit k (against body (b, o .0)) r (now-barred k b s t o d l)) (iteration-free k r))
+
+-- ---- an iteration's path is a route
+
+module _ (body : Body) (w : Onward body) where
+  inside : {b : ℕ} {s t : State} {p : Path} → Iteration body b s p t → b < body .count
+  inside (ends e d) = omega arith
+  inside (goes {b = b} o d l r) = omega (arith, w .above b o (l .exit), w .inside b o (l .exit))
+
+  iteration-leads : {b : ℕ} {s t : State} {p : Path} → Iteration body b s p t → Leads body b p (lastBlock body)
+  iteration-leads (ends e d) = omega arith
+  iteration-leads (goes o d l r) = (o .1, refl, l .exit, iteration-leads r)
+
+  pub iteration-route : Known body → {s t : State} {p : Path} → Iteration body 0 s p t → Mem p (routes body)
+  unfolding tails
+  iteration-route k {p = p} i = only-in (λ p. not (conflict body p)) (paths body (body .count) 0) p (ap not (iteration-free body k i)) (leads-path body w (body .count) 0 p (inside i) (omega arith) (iteration-leads i))
+
+-- ---- the best of a list
+
+module _ {B : Type 0} (prefers : ℕ → ℕ → Bool) (ch : Choice prefers) where
+  chosen : (x : ℕ × B) (o : Option (ℕ × B)) (v : ℕ × B) → choose prefers x o ≡ some v → (prefers (x .0) (v .0) ≡ false) × ((u : ℕ × B) → o ≡ some u → prefers (u .0) (v .0) ≡ false)
+  chosen x none v h = let e : x ≡ v = cc in (rw e (ch .order .irr (v .0)), λ u q. absurd (let z : _≡_ {A = ℕ} 0 1 = cc in omega arith))
+  chosen x (some y) v h = by (prefers (y .0) (x .0)) refl (cc)
+    where
+      by : (c : Bool) → prefers (y .0) (x .0) ≡ c → cond c y x ≡ v → (prefers (x .0) (v .0) ≡ false) × ((u : ℕ × B) → some y ≡ some u → prefers (u .0) (v .0) ≡ false)
+      by true p e = (rw (← e) (asym (ch .order) (y .0) (x .0) p), λ u q. let d : y ≡ u = cc in rw (← e, ← d) (ch .order .irr (y .0)))
+      by false p e = (rw (← e) (ch .order .irr (x .0)), λ u q. let d : y ≡ u = cc in rw (← e, ← d) p)
+
+  chosen-some : (x : ℕ × B) (o : Option (ℕ × B)) → (u : ℕ × B) × (choose prefers x o ≡ some u)
+  chosen-some x none = (x, refl)
+  chosen-some x (some y) = (cond (prefers (y .0) (x .0)) y x, refl)
+
+  pub best-some : (l : List (ℕ × B)) (x : ℕ × B) → Mem x l → (u : ℕ × B) × (best prefers l ≡ some u)
+  unfolding best
+  best-some (y ∷ l) x m = chosen-some y (best prefers l)
+
+  -- none of the list is preferred to the best
+  pub best-most : (l : List (ℕ × B)) (v : ℕ × B) → best prefers l ≡ some v → (x : ℕ × B) → Mem x l → prefers (x .0) (v .0) ≡ false
+  unfolding best
+  best-most (y ∷ l) v h x (inl e) = rw e ((chosen y (best prefers l) v h) .0)
+  best-most (y ∷ l) v h x (inr m) =
+      let (u, q) = best-some l x m in
+      ntrans (ch .order) (x .0) (u .0) (v .0) (best-most l u q x m) ((chosen y (best prefers l) v h) .1 u q)
+
+-- ---- runs
+
+module _ (body : Body) (g : Sound body) (cost : ℕ → ℕ → ℕ) where
+  -- no iteration's weight is preferred to the best route's
+  pub iteration-best : (prefers : ℕ → ℕ → Bool) → Choice prefers → {s t : State} {p : Path} → Iteration body 0 s p t → (v : ℕ × Path) → bestRoute body cost prefers ≡ some v
+      → prefers (weight cost (lastBlock body) p) (v .0) ≡ false
+  unfolding bestRoute
+  iteration-best prefers ch {p = p} i v h =
+      best-most prefers ch (map (weighed body cost) (routes body)) v h (weighed body cost p) (map-in (weighed body cost) (routes body) p (iteration-route body (g .onward) (g .known) i))
+
+  run-cost : (v : ℕ × Path) → bestRoute body cost heavier ≡ some v → {l : List Path} → Run body l → runCost body cost l ≤ length l * v .0
+  unfolding runCost
+  run-cost v h rests = omega arith
+  run-cost v h (repeats {p = p} {l = l} i r) = one-more (weight cost (lastBlock body) p) (runCost body cost l) (length l) (v .0) (ltb-false (v .0) (weight cost (lastBlock body) p) (iteration-best heavier heaviest i v h)) (run-cost v h r)
+    where
+      one-more : (a c n m : ℕ) → a ≤ m → c ≤ n * m → a + c ≤ suc n * m
+      one-more a c n m p q = rw (suc-mul n m) (omega arith)
+
+  -- a run of no more iterations than the count costs at most the count times the heaviest weight
+  pub run-bound : (v : ℕ × Path) → bestRoute body cost heavier ≡ some v → (count : ℕ) → {l : List Path} → Run body l → length l ≤ count → runCost body cost l ≤ count * v .0
+  run-bound v h count {l} r n = le-trans (run-cost v h r) (mul-le-mul-right (v .0) n)
