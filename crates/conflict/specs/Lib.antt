@@ -5,3 +5,4 @@ pub mod Parts
 pub mod Turns
 pub mod Reaching
 pub mod Finding
+pub mod Laying
