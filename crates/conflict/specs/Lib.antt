@@ -5,4 +5,3 @@ pub mod Parts
 pub mod Turns
 pub mod Reaching
 pub mod Finding
-pub mod Laying

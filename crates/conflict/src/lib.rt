@@ -1,25 +1,20 @@
 // The conflicts of document 01: the pair test, the sets of edges that the walks need, and the conflict list. Each call answers for all bytes; the
 // meaning of each is in specs/ and in form's Conflict.
 ghost use mathlib.Core.Path.{_≡_};
-ghost use mathlib.Core.List.{_++_};
 ghost use mathlib.Core.Bool.{_&&_, _||_, not};
 ghost use Prim.Native.Nat.{ℕ, _+_, _≤_, _<_};
 ghost use lib.Dec.{eqb, ltb};
 ghost use lib.ListN.{length, getD, take, drop};
 ghost use lib.IntN.{ℤ, pos, _-ℤ_};
 ghost use lib.Signed.{ltZ};
-ghost use lib.Seq.{sets};
-ghost use lib.Count.{ones};
-ghost use Rattle.laws.specs.Terms.{digit, bit, each, range};
+ghost use Rattle.laws.specs.Terms.{digit, bit};
 ghost use Rattle.form.specs.Form.{when};
 ghost use Rattle.form.specs.Conflict.{noBlock};
 ghost use Rattle.form.specs.Relation.{eqZ, opposite};
 ghost use Rattle.relations.specs.PairTest.{low, level, high, apart, someOf, shares};
 ghost use Rattle.words.specs.Filled.{Told};
-ghost use Rattle.words.specs.Sums.{sum};
 ghost use Rattle.relations.specs.Effects.{Within};
 ghost use Rattle.conflict.specs.Pair.{conflicting};
-ghost use Rattle.conflict.specs.Laying.{entryBytes, wordBytes, edgeBytes};
 ghost use Rattle.relations.specs.Joined.{target};
 ghost use Rattle.conflict.specs.Sets.{Sound, setsOf};
 ghost use Rattle.conflict.specs.Parts.{blockIn, withParts, TestsOf, TargetsOf, Sizes, HitsOf, EffectRowsOf, AlikeAt, OpposedAt, EitherAt, ListedAt, Above, ReachOf, FirstsOf, OpposedOf, ListedOf, FoundOf};
@@ -633,75 +628,11 @@ fn find(body: form::Body) -> Found
     }
 }
 
-// The sets that the walks need of a body.
+// The sets of a body.
 pub fn sets_of(body: form::Body) -> Sets
     requires { ⌜ Sound body ⌝ }
     ensures { λ r. ⌜ r ≡ setsOf body ⌝ }
 {
     let f = find(body);
     f.sets
-}
-
-// ---- the list
-
-// An entry's five bytes into `out` at `at`, where there is one; the place after it.
-fn entry(out: &mut [u8], at: usize, on: bool, kind: u8, first: usize, third: u8, second: usize, outcome: u8) -> usize
-    requires { ⌜ ((first < 256) × (second < 256)) × (at + length (entryBytes on kind first third second outcome) ≤ length (now out)) ⌝ }
-    ensures { λ r. ⌜ (r ≡ at + length (entryBytes on kind first third second outcome)) × (now (out .exit) ≡ sets (now (out .entry)) at (entryBytes on kind first third second outcome)) ⌝ }
-{
-    if !on {
-        return at;
-    }
-    out[at] = kind;
-    out[at + 1] = first as u8;
-    out[at + 2] = third;
-    out[at + 3] = second as u8;
-    out[at + 4] = outcome;
-    at + 5
-}
-
-// The entries of one kind of an edge, by the first block: those of a word, and beside each those of another.
-fn entries(out: &mut [u8], start: usize, kind: u8, word: u64, third: u8, other: u64, another: u8, second: usize, outcome: u8) -> usize
-    requires { ⌜ (second < 256) × (start + length (wordBytes kind word third other another second outcome) ≤ length (now out)) ⌝ }
-    ensures { λ r. ⌜ (r ≡ start + length (wordBytes kind word third other another second outcome)) × (now (out .exit) ≡ sets (now (out .entry)) start (wordBytes kind word third other another second outcome)) ⌝ }
-{
-    let mut at = start;
-    let mut f = 0;
-    while f < 64 {
-        let one = words::has(word, f);
-        let two = words::has(other, f);
-        let next = entry(out, at, one, kind, f, third, second, outcome);
-        at = entry(out, next, two, kind, f, another, second, outcome);
-        f += 1;
-    }
-    at
-}
-
-// The entries of an edge: its assignments, then its edges.
-fn edge_entries(out: &mut [u8], at: usize, assigned: u64, jump: u64, fall: u64, variable: u8, second: usize, outcome: u8) -> usize
-    requires { ⌜ (second < 256) × (at + length (edgeBytes assigned jump fall variable second outcome) ≤ length (now out)) ⌝ }
-    ensures { λ r. ⌜ (r ≡ at + length (edgeBytes assigned jump fall variable second outcome)) × (now (out .exit) ≡ sets (now (out .entry)) at (edgeBytes assigned jump fall variable second outcome)) ⌝ }
-{
-    let next = entries(out, at, 1, assigned, variable, 0, 0, second, outcome);
-    entries(out, next, 2, jump, 1, fall, 2, second, outcome)
-}
-
-fn ones(x: u64) -> usize
-    ensures { λ r. ⌜ (r ≡ ones x) × (r ≤ 64) ⌝ }
-{
-    u64::count_ones(x) as usize
-}
-
-// How many bits three rows of words have.
-fn number_of(a: &[u64], j: &[u64], f: &[u64]) -> usize
-    requires { ⌜ (length (now a) ≡ 64) × ((length (now j) ≡ 64) × (length (now f) ≡ 64)) ⌝ }
-    ensures { λ r. ⌜ (r ≡ sum 64 (λ s. ones (getD (now (a .entry)) s 0) + (ones (getD (now (j .entry)) s 0) + ones (getD (now (f .entry)) s 0)))) × (r ≤ 12288) ⌝ }
-{
-    let mut n = 0;
-    let mut s = 0;
-    while s < 64 {
-        n += ones(a[s]) + (ones(j[s]) + ones(f[s]));
-        s += 1;
-    }
-    n
 }
