@@ -1,2 +1,4 @@
 -- The definitions and laws of the upper layer.
 pub mod Plan
+pub mod WalkTerms
+pub mod WalkLaws
