@@ -1,4 +1,5 @@
 -- The definitions and laws of the upper layer.
 pub mod Plan
+pub mod RouteWords
 pub mod WalkTerms
 pub mod WalkLaws

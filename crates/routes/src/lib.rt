@@ -1,2 +1,3 @@
 // The upper layer: the full walk and the sweep. It calls form, counter and conflict and knows them by their contracts alone.
+mod route;
 pub mod walk;
