@@ -1,5 +1,8 @@
 -- The definitions and laws of the upper layer.
 pub mod Plan
 pub mod RouteWords
+pub mod Owed
+pub mod WalkAnswer
 pub mod WalkTerms
 pub mod WalkLaws
+pub mod WalkEnds

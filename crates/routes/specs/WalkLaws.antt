@@ -16,22 +16,24 @@ use lib.ListN.{length}
 use Rattle.laws.specs.Terms.{Mem, bit, heavier}
 use Rattle.laws.specs.Tests.{clash, and-out, or-out, or-none, not-out}
 use Rattle.laws.specs.Lists.{mem-append}
-use Rattle.laws.specs.Sets.{ext, bit-with}
+use Rattle.laws.specs.Sets.{ext, bit-with, bit-none}
+use Rattle.laws.specs.Orders.{heaviest}
 use Rattle.form.specs.declared.Body.{Body}
 use Rattle.form.specs.Conflict.{Edge, block, exits, isTest, condition, touches, opposes, denies, Sound, Onward}
 use Rattle.theory.specs.Route.{stepCost}
 use Rattle.theory.specs.Row.{Key}
 use Rattle.theory.specs.Machine.{Forward}
-use Rattle.theory.specs.Edges.{has, edgesOf, edges-words}
+use Rattle.theory.specs.Edges.{has, edgesOf, edges-words, noEdges}
 use Rattle.theory.specs.Walk.{keepFirst, andThen, ifStep, branch, walk, walk-eq, tally, tallyBy}
 use Rattle.theory.specs.Forward.{onMachine, entered, banned, stepOn}
 use Rattle.theory.specs.Ties.{mark}
 use Rattle.theory.specs.SweepWords.{Words}
 use Rattle.theory.specs.WalkWords.{advance, finish}
+use Rattle.theory.specs.Main.{walk-answer}
 use Rattle.routes.specs.Plan.{wordAt, exitBy, Planned}
 use Rattle.routes.specs.declared.walk.Stand.{Stand}
 use Rattle.routes.specs.declared.walk.Found.{Found}
-use Rattle.routes.specs.WalkTerms.{bannedAt, carriedAt, routeFound, tallied, Ready, Barred, Entered, Left, visited, walkFrom, Walks, isOpen, Took}
+use Rattle.routes.specs.WalkTerms.{bannedAt, carriedAt, routeFound, tallied, Ready, Barred, Entered, Left, visited, walkFrom, Walks, isOpen, Took, Searched}
 use Rattle.routes.specs.WalkTerms.Took.{stays, goes}
 
 -- ---- words
@@ -275,3 +277,22 @@ onward plan count budget b target w banned at here next found ready h is on insi
     let cost = ready .cheap b h in
     let left = ltb-false budget (found .walked) (not-out (ltb budget (found .walked)) q) in
     (omega arith, (omega arith, (omega arith, omega arith)))
+
+-- ---- from block 0 on
+
+abbrev pub start : Stand
+start = record { jumps = 0; falls = 0; weight = 0; jumped = 0; fallen = 0 }
+
+abbrev pub nothing : Found
+nothing = record { walked = 0; any = false; weight = 0; jumped = 0; fallen = 0 }
+
+pub searched : (plan : List ℕ) (count budget : ℕ) (r : Found) → Walks plan count budget 0 start nothing r → Searched plan count budget r
+searched plan count budget r w body p g size = w body p g size free ∙ walk-answer body g (stepCost body) heavier heaviest budget
+  where
+    free : Barred body noEdges
+    free = record {
+      jumps = λ k l t. clash t (bit-none k);
+      falls = λ k l t. clash t (bit-none k);
+      no-jumps = λ k l. bit-none k;
+      no-falls = λ k l. bit-none k;
+    }

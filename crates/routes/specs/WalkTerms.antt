@@ -9,13 +9,13 @@ use lib.Dec.{eqb, ltb}
 use lib.ListN.{length}
 use Rattle.laws.specs.Terms.{bit, heavier}
 use Rattle.form.specs.declared.Body.{Body}
-use Rattle.form.specs.Conflict.{isTest, Sound}
-use Rattle.theory.specs.Route.{stepCost}
+use Rattle.form.specs.Conflict.{block, isTest, Sound}
+use Rattle.theory.specs.Route.{stepCost, bestRoute, walked}
 use Rattle.theory.specs.Row.{Key}
-use Rattle.theory.specs.Walk.{walk, tally, tallyBy}
+use Rattle.theory.specs.Walk.{walk, tally, tallyBy, within}
 use Rattle.theory.specs.Forward.{onMachine}
 use Rattle.theory.specs.Ties.{mark}
-use Rattle.theory.specs.SweepWords.{Words}
+use Rattle.theory.specs.SweepWords.{Words, wordsFound}
 use Rattle.theory.specs.WalkWords.{advance, finish}
 use Rattle.routes.specs.Plan.{wordAt, Planned}
 use Rattle.routes.specs.declared.walk.Stand.{Stand}
@@ -100,3 +100,19 @@ pub data Took (plan : List ℕ) (count budget b way target banned : ℕ) (here :
   stays : isOpen target banned b (found .walked) budget ≡ false → r ≡ found → Took plan count budget b way target banned here found r
   goes : isOpen target banned b (found .walked) budget ≡ true → (next : Stand) → Left plan b way here next → Walks plan count budget target next found r
       → Took plan count budget b way target banned here found r
+
+-- ---- from block 0 on
+
+-- over the budget, or the number of conflict-free beginnings and the first heaviest route in words
+abbrev pub Searched : List ℕ → (count budget : ℕ) → Found → Type 0
+Searched plan count budget r =
+    (body : Body) → Planned body plan → Sound body → body .count ≡ count
+    → tallied budget r ≡ within budget (walked body) (wordsFound body (bestRoute body (stepCost body) heavier))
+
+-- the plan is a sound body's, of `count` blocks
+pub record PlanOf (plan : List ℕ) (count : ℕ) : Type 0 where
+  pub body : Body
+  pub planned : Planned body plan
+  pub sound : Sound body
+  pub cheap : (b : ℕ) → block body b .cost ≤ 1000000
+  pub size : body .count ≡ count

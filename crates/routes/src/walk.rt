@@ -6,8 +6,12 @@ ghost use Prim.Native.Nat.{ℕ, _+_, _*_, _^_, _<_, _≤_};
 ghost use lib.ListN.{length};
 ghost use Rattle.laws.specs.Terms.{heavier};
 ghost use Rattle.theory.specs.Walk.{keepFirst};
-ghost use Rattle.routes.specs.Plan.{wordAt};
-ghost use Rattle.routes.specs.WalkTerms.{routeFound, tallied, Ready, Entered, Left, visited, Walks, isOpen};
+ghost use Rattle.form.specs.declared.Body.{Body};
+ghost use Rattle.form.specs.Conflict.{Sound};
+ghost use Rattle.routes.specs.Plan.{wordAt, Planned};
+ghost use Rattle.routes.specs.WalkTerms.{routeFound, tallied, Ready, Entered, Left, visited, Walks, isOpen, Searched, PlanOf};
+ghost use Rattle.routes.specs.WalkAnswer.{said, walkOutcome};
+ghost use Rattle.routes.specs.declared.walk.WalkAnswer.the-variants.{Refused};
 
 // Where the walk stands: the banned edges, the weight of the steps so far, the blocks left by jump or go, and those left by fall.
 struct Stand {
@@ -154,4 +158,78 @@ fn walk_from(plan: &[u64], count: usize, budget: u64, b: usize, at: Stand, found
         );
     }
     second
+}
+
+// All that is found from block 0 on.
+fn search(plan: &[u64], count: usize, budget: u64) -> Found
+    requires { ⌜ Ready (now plan) count × ((0 < count) × (budget < 4294967296)) ⌝ }
+    ensures { λ r. ⌜ Searched (now (plan .entry)) count budget r ⌝ }
+{
+    let start = Stand {
+        jumps: 0,
+        falls: 0,
+        weight: 0,
+        jumped: 0,
+        fallen: 0,
+    };
+    let nothing = Found {
+        walked: 0,
+        any: false,
+        weight: 0,
+        jumped: 0,
+        fallen: 0,
+    };
+    walk_from(plan, count, budget, 0, start, nothing)
+}
+
+// The full walk's answer: the loop count, the weight of the first heaviest route, count times weight, and the number of conflict-free beginnings; or the
+// refusal's number and place.
+pub enum WalkAnswer {
+    Walked {
+        iterations: u64,
+        weight: u64,
+        bound: u64,
+        walked: u64,
+    },
+    Refused {
+        number: u32,
+        place: usize,
+    },
+}
+
+fn refuse(number: u32, place: usize) -> WalkAnswer
+    ensures { λ r. ⌜ r ≡ Refused number place ⌝ }
+{
+    WalkAnswer::Refused { number, place }
+}
+
+// The full walk of a planned body whose loop count is known.
+fn walk_planned(
+    plan: &[u64],
+    count: usize,
+    iterations: u64,
+    budget: u64,
+    route: &mut [u8],
+) -> WalkAnswer
+    requires { ⌜ PlanOf (now plan) count × ((iterations < 4294967296) × (budget < 4294967296)) ⌝ }
+    ensures { λ r. ⌜ ((body : Body) → Planned body (now (plan .entry)) → Sound body → body .count ≡ count → (said r, now (route .exit)) ≡ walkOutcome body budget (now (route .entry)) iterations) ⌝ }
+{
+    if route.len() < count {
+        return refuse(42, count);
+    }
+    let found = search(plan, count, budget);
+    if budget < found.walked {
+        return refuse(41, budget as usize);
+    }
+    if !found.any {
+        return refuse(43, 0);
+    }
+    let weight = found.weight;
+    crate::route::write_route(count, found.jumped, found.fallen, route);
+    WalkAnswer::Walked {
+        iterations,
+        weight,
+        bound: iterations * weight,
+        walked: found.walked,
+    }
 }
