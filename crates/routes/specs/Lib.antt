@@ -4,5 +4,7 @@ pub mod RouteWords
 pub mod Owed
 pub mod WalkAnswer
 pub mod WalkTerms
+pub mod Accepted
 pub mod WalkLaws
 pub mod WalkEnds
+pub mod WalkPromise
