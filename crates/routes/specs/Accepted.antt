@@ -2,7 +2,7 @@
 use mathlib.Core.Path.{_≡_, refl, sym, ap, _∙_}
 use mathlib.Core.Bool.{Bool, true, false, _||_}
 use mathlib.Core.List.{List, [], _∷_}
-use Prim.Native.Nat.{ℕ, _+_, _≤_}
+use Prim.Native.Nat.{ℕ, _+_, _<_, _≤_}
 use native.Mathlib.Omega.{arith}
 use lib.Dec.{eqb}
 use lib.ListN.{length}
@@ -11,6 +11,11 @@ use Rattle.form.specs.declared.Verdict.{Verdict}
 use Rattle.form.specs.declared.Verdict.the-variants.{Accepted, Refused}
 use Rattle.form.specs.Form.{when, oneIf, isBlock, isEffect, recordsFrom, recordFault, endFault, judged, judgeEnds, judgeRecords, judge, bodyOf}
 use Rattle.form.specs.Conflict.{block, Sound}
+use Rattle.form.specs.declared.Counter.{Counter}
+use Rattle.counter.specs.declared.Counted.{Counted}
+use Rattle.counter.specs.declared.Counted.the-variants.{Iterations, Refused as NoCount}
+use Rattle.counter.specs.Answer.{Values, said, Owed as Counter·Owed}
+use Rattle.counter.specs.Answer.Owed.{no-relation, no-count as without, counted as with-count}
 use Rattle.relations.specs.Loops.{count-once}
 use Rattle.roundtrip.specs.Acceptance.{refused}
 use Rattle.roundtrip.specs.Sound.{well-formed, sound}
@@ -69,3 +74,26 @@ module _ {A : Type 0} (s : List ℕ) (refused-by : ℕ → ℕ → A) (with : �
   owed-once x y (counted j n c e) (no-count k none f) = absurd (none n c)
   owed-once x y (counted j n c e) (counted k m d f) =
       e ∙ ap with (count-once 1 (bodyOf s .counter .initial) (bodyOf s .counter .step) (bodyOf s .counter .relation) (bodyOf s .counter .limit) n m c d) ∙ sym f
+
+-- ---- from the counter's answer
+
+abbrev pub CounterOwed : Counter → Counted → Type 0
+CounterOwed counter answer = Counter·Owed (counter .initial) (counter .step) (counter .relation) (counter .limit) (said answer)
+
+-- 0 where there is none
+abbrev pub iterationsOf : Counted → ℕ
+iterationsOf answer = said answer .iterations
+
+module _ {A : Type 0} (s : List ℕ) (refused-by : ℕ → ℕ → A) (with : ℕ → A) (a : judge s ≡ Accepted) where
+  known : 5 < bodyOf s .counter .relation → ⊥
+  known h = omega (arith, well-formed s a .relation)
+
+  pub owed-refused : (number place : ℕ) → CounterOwed (bodyOf s .counter) (NoCount number place) → Owed s refused-by with (refused-by number place)
+  owed-refused number place (no-relation h e) = absurd (known h)
+  owed-refused number place (without l never e) = no-count a never (λ i. refused-by (e i .number) (e i .place))
+  owed-refused number place (with-count l k c e) = absurd (omega (arith, c .enough, ap (λ (v : Values). v .iterations) e))
+
+  pub owed-counted : (k : ℕ) → CounterOwed (bodyOf s .counter) (Iterations k) → Owed s refused-by with (with k)
+  owed-counted k (no-relation h e) = absurd (known h)
+  owed-counted k (without l never e) = absurd (omega (arith, ap (λ (v : Values). v .number) e))
+  owed-counted k (with-count l j c e) = counted a j c (ap with (ap (λ (v : Values). v .iterations) e))

@@ -25,7 +25,14 @@ use Rattle.theory.specs.SweepWords.{Words, wordsOf, wordsFound, weight-most}
 use Rattle.theory.specs.WalkWords.{bytes-words}
 use Rattle.routes.specs.RouteWords.{bytesOf}
 use Rattle.routes.specs.declared.walk.Found.{Found}
-use Rattle.routes.specs.WalkAnswer.{Values, refusal, Outcome, refused, routed, walkOutcome}
+use Rattle.form.specs.declared.Verdict.the-variants.{Accepted}
+use Rattle.form.specs.Form.{judge, bodyOf}
+use Rattle.counter.specs.declared.Counted.{Counted}
+use Rattle.counter.specs.declared.Counted.the-variants.{Iterations, Refused as NoCount}
+use Rattle.routes.specs.declared.walk.WalkAnswer.{WalkAnswer}
+use Rattle.routes.specs.declared.walk.WalkAnswer.the-variants.{Refused}
+use Rattle.routes.specs.Accepted.{CounterOwed, owed-refused, owed-counted}
+use Rattle.routes.specs.WalkAnswer.{said, Outcome, refused, routed, walkOutcome, WalkOwed}
 use Rattle.routes.specs.WalkTerms.{routeFound, tallied, Searched, PlanOf}
 
 -- ---- the best is one of them
@@ -121,3 +128,16 @@ weight-few plan count budget found p s l a =
 -- the bound fits a word
 pub product : (count weight : ℕ) → count < 4294967296 → weight ≤ 64000000 → Fits w64 (count * weight)
 product count weight h l = record { fits = lt-of-le-of-lt (le-trans (mul-le-mul-right weight (le-of-lt h)) (mul-le-mul-left 4294967296 l)) (lit< tt) }
+
+-- ---- with the counter's answer
+
+module _ (form : List ℕ) (budget : ℕ) (lent : List ℕ) (a : judge form ≡ Accepted) (x : Counted) (o : CounterOwed (bodyOf form .counter) x) where
+  pub without-count : {number place : ℕ} {r : WalkAnswer} → x ≡ NoCount number place → r ≡ Refused number place → WalkOwed form budget lent (said r, lent)
+  without-count {number} {place} e f =
+      subst (λ (y : WalkAnswer). WalkOwed form budget lent (said y, lent)) (sym f)
+      (owed-refused form (refused lent) (walkOutcome (bodyOf form) budget lent) a number place (subst (CounterOwed (bodyOf form .counter)) e o))
+
+  pub with-count : {k : ℕ} → x ≡ Iterations k → (y : Outcome) → y ≡ walkOutcome (bodyOf form) budget lent k → WalkOwed form budget lent y
+  with-count {k} e y f =
+      subst (WalkOwed form budget lent) (sym f)
+      (owed-counted form (refused lent) (walkOutcome (bodyOf form) budget lent) a k (subst (CounterOwed (bodyOf form .counter)) e o))

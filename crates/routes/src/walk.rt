@@ -6,11 +6,15 @@ ghost use Prim.Native.Nat.{ℕ, _+_, _*_, _^_, _<_, _≤_};
 ghost use lib.ListN.{length};
 ghost use Rattle.laws.specs.Terms.{heavier};
 ghost use Rattle.theory.specs.Walk.{keepFirst};
+ghost use mathlib.Core.List.{List};
 ghost use Rattle.form.specs.declared.Body.{Body};
+ghost use Rattle.form.specs.declared.Verdict.the-variants.{Accepted};
+ghost use Rattle.form.specs.Form.{judge, bodyOf};
 ghost use Rattle.form.specs.Conflict.{Sound};
 ghost use Rattle.routes.specs.Plan.{wordAt, Planned};
 ghost use Rattle.routes.specs.WalkTerms.{routeFound, tallied, Ready, Entered, Left, visited, Walks, isOpen, Searched, PlanOf};
-ghost use Rattle.routes.specs.WalkAnswer.{said, walkOutcome};
+ghost use Rattle.routes.specs.WalkAnswer.{said, walkOutcome, WalkOwed};
+ghost use Rattle.routes.specs.Accepted.{CounterOwed, iterationsOf};
 ghost use Rattle.routes.specs.declared.walk.WalkAnswer.the-variants.{Refused};
 
 // Where the walk stands: the banned edges, the weight of the steps so far, the blocks left by jump or go, and those left by fall.
@@ -231,5 +235,28 @@ fn walk_planned(
         weight,
         bound: iterations * weight,
         walked: found.walked,
+    }
+}
+
+// The full walk of a planned body, with the counter's answer.
+fn walk_counted(
+    counted: counter::Counted,
+    plan: &[u64],
+    count: usize,
+    budget: u64,
+    route: &mut [u8],
+) -> WalkAnswer
+    requires { ⌜ PlanOf (now plan) count × ((iterationsOf counted < 4294967296) × (budget < 4294967296)) ⌝ }
+    ensures { λ r. ⌜ ((form : List ℕ) → judge form ≡ Accepted → Planned (bodyOf form) (now (plan .entry)) → bodyOf form .count ≡ count → CounterOwed (bodyOf form .counter) counted → WalkOwed form budget (now (route .entry)) (said r, now (route .exit))) ⌝ }
+{
+    match counted {
+        counter::Counted::Refused { number, place } => refuse(number, place),
+        counter::Counted::Iterations(iterations) => walk_planned(
+            plan,
+            count,
+            iterations,
+            budget,
+            route,
+        ),
     }
 }
