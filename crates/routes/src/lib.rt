@@ -1,3 +1,4 @@
 // The upper layer: the full walk and the sweep. It calls form, counter and conflict and knows them by their contracts alone.
+mod plan;
 mod route;
 pub mod walk;
