@@ -627,3 +627,12 @@ fn find(body: form::Body) -> Found
         fallen,
     }
 }
+
+// The sets that the walks need of a body.
+pub fn sets_of(body: form::Body) -> Sets
+    requires { ⌜ Sound body ⌝ }
+    ensures { λ r. ⌜ r ≡ setsOf body ⌝ }
+{
+    let f = find(body);
+    f.sets
+}

@@ -116,13 +116,15 @@ module _ (s : List ℕ) (r : Reading) (e : r ≡ reading s) where
     pub read-body : r .body ≡ bodyOf s
     read-body = ap (λ (x : Reading). x .body) e ∙ ap (λ (v : Verdict). when (accepted v) (bodyOf s) zeroBody) read-accepted
 
-    pub plan-of : {plan : List ℕ} → (Sound (r .body) → Planned (r .body) plan) → PlanOf plan (r .body .count)
+    pub read-sound : Sound (r .body)
+    read-sound = subst Sound (sym read-body) (sound s read-accepted)
+
+    pub plan-of : {plan : List ℕ} → Planned (r .body) plan → PlanOf plan (r .body .count)
     plan-of p =
-        let is-sound = subst Sound (sym read-body) (sound s read-accepted) in
         record {
           body = r .body;
-          planned = p is-sound;
-          sound = is-sound;
+          planned = p;
+          sound = read-sound;
           cheap = subst (λ (b : Body). (k : ℕ) → block b k .cost ≤ 1000000) (sym read-body) (cheap s read-accepted);
           size = refl;
         }

@@ -260,3 +260,28 @@ fn walk_counted(
         ),
     }
 }
+
+// The full walk, for any bytes: the loop count, the first heaviest conflict-free route with its bytes, count times weight, and walked; or a refusal, which changes
+// no lent byte.
+pub fn walk(form: &[u8], budget: u32, route: &mut [u8]) -> WalkAnswer
+    ensures { λ r. ⌜ WalkOwed (now (form .entry)) budget (now (route .entry)) (said r, now (route .exit)) ⌝ }
+{
+    let reading = form::read(form);
+    let verdict = reading.verdict;
+    let body = reading.body;
+    match verdict {
+        form::Verdict::Refused { number, place } => refuse(number, place),
+        form::Verdict::Accepted => {
+            let plan = crate::plan::plan_of(body);
+            let counter = body.counter;
+            let count = body.count;
+            walk_counted(
+                counter::count_of(counter),
+                &plan,
+                count,
+                budget as u64,
+                route,
+            )
+        }
+    }
+}

@@ -20,8 +20,8 @@ loop-holds c = (omega arith, told-none _ _ _ _ refl)
 mul-r : tie.Need-mul-r Inv-loop μ-loop
 mul-r c = omega arith
 
-shared-slice-read-r : tie.Need-shared-slice-read-r Inv-loop μ-loop
-shared-slice-read-r c = omega arith
+element-copy-out-r : tie.Need-element-copy-out-r Inv-loop μ-loop
+element-copy-out-r c = omega arith
 
 mul-r-2 : tie.Need-mul-r-2 Inv-loop μ-loop
 mul-r-2 c = omega arith
@@ -49,7 +49,7 @@ wide-row-spec =
     μ-loop
     loop-holds
     mul-r
-    shared-slice-read-r
+    element-copy-out-r
     mul-r-2
     array-write-r
     add-b
