@@ -5,7 +5,7 @@ use std::env;
 
 use crate::tally::Tally;
 
-/// `DRIVER [SEED [INPUTS]] [-- PROGRAM WORD..]`: without a seed it is 1; the program answers for the proved code.
+/// `DRIVER [SEED [INPUTS]] -- PROGRAM WORD..`: without a seed it is 1; the program answers for the proved code.
 pub struct Arguments {
     pub seed: u64,
     pub inputs: u64,
@@ -15,7 +15,7 @@ pub struct Arguments {
 impl Arguments {
     pub fn read(usual_inputs: u64) -> Result<Arguments, String> {
         let mut words = env::args();
-        let usage = format!("usage: {} [SEED [INPUTS]] [-- PROGRAM WORD..]", words.next().unwrap_or_default());
+        let usage = format!("usage: {} [SEED [INPUTS]] -- PROGRAM WORD..", words.next().unwrap_or_default());
         let numbers: Result<Vec<u64>, _> =
             words.by_ref().take_while(|word| word != "--").map(|word| word.parse()).collect();
         let (seed, inputs) = match numbers.as_deref() {
@@ -24,7 +24,11 @@ impl Arguments {
             Ok([seed, inputs]) => (*seed, *inputs),
             _ => return Err(usage),
         };
-        Ok(Arguments { seed, inputs, program: words.collect() })
+        let program: Vec<String> = words.collect();
+        if program.is_empty() {
+            return Err(usage);
+        }
+        Ok(Arguments { seed, inputs, program })
     }
 }
 

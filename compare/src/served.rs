@@ -1,7 +1,7 @@
 //! The proved code in a program of its own (`serve.c`), asked through its standard input and output.
 //!
-//! The proved library is compiled for x86-64. Where this program runs on another processor it cannot link that library;
-//! `serve.c` can, and runs in an emulator. A question is answered before the next one is asked.
+//! The proved library is compiled for x86-64. `serve.c` is linked with it and runs as it is there and in an emulator
+//! elsewhere, so that the drivers reach it in one way on every machine. A question is answered before the next one is asked.
 //!
 //! A question is five numbers of 8 bytes, little-endian: which call, the length of the form, one number for the call,
 //! the length of the memory with its guards, the length of one guard; then the form's bytes and the memory's. The answer
@@ -23,9 +23,13 @@ pub struct Served {
 
 impl Served {
     /// Starts the program, given as its path and arguments.
-    pub fn start(program: &[String]) -> io::Result<Served> {
-        let mut child =
-            Command::new(&program[0]).args(&program[1..]).stdin(Stdio::piped()).stdout(Stdio::piped()).spawn()?;
+    pub fn start(program: &[String]) -> Result<Served, String> {
+        let mut child = Command::new(&program[0])
+            .args(&program[1..])
+            .stdin(Stdio::piped())
+            .stdout(Stdio::piped())
+            .spawn()
+            .map_err(|error| format!("{} does not start: {error}", program[0]))?;
         let (questions, answers) = (child.stdin.take(), child.stdout.take().expect("it was asked for"));
         Ok(Served { child, questions, answers })
     }

@@ -1,8 +1,9 @@
 //! Compares the proved reader and writer with the second program's, through two calls of the proved static library: the
 //! verdict on bytes, and the bytes read and written back.
 //!
-//!     compare_form [SEED [INPUTS]]                    calls the linked library (feature `linked`, build.rs)
-//!     compare_form [SEED [INPUTS]] -- PROGRAM WORD..  asks a program that is linked with it (serve.c)
+//!     compare_form [SEED [INPUTS]] -- PROGRAM WORD..
+//!
+//! The program is serve.c, linked with the library.
 //!
 //! Every input is asked for its verdict, and written back into memory that is not there, too short, exact and longer;
 //! the whole memory must then be what the second program makes of the same memory: on a refusal unchanged, else the
@@ -21,7 +22,6 @@ use by_listing::tally::Tally;
 const INPUTS: u64 = 30_000;
 
 /// A refusal's number and place; or number 0, and for `somniaret_rewrite` the number of bytes written as the place.
-#[repr(C)]
 #[derive(Clone, Copy, Debug, PartialEq, Eq)]
 struct FormAnswer {
     number: u64,
@@ -48,74 +48,6 @@ mod listed {
     }
 }
 
-#[cfg(feature = "linked")]
-mod linked {
-    use super::*;
-    use std::ptr;
-
-    extern "C" {
-        fn somniaret_verdict(form: *const u8, len: usize) -> FormAnswer;
-        fn somniaret_rewrite(form: *const u8, len: usize, out: *mut u8, out_len: usize) -> FormAnswer;
-    }
-
-    /// No bytes at all are given as a null pointer.
-    fn start(form: &[u8]) -> *const u8 {
-        if form.is_empty() {
-            ptr::null()
-        } else {
-            form.as_ptr()
-        }
-    }
-
-    pub fn verdict(form: &[u8]) -> FormAnswer {
-        unsafe { somniaret_verdict(start(form), form.len()) }
-    }
-
-    pub fn rewrite(form: &[u8], lent: &mut Lent) -> FormAnswer {
-        let nothing_around = lent.with_guards().1.is_empty();
-        let out = lent.bytes();
-        let to = if nothing_around { ptr::null_mut() } else { out.as_mut_ptr() };
-        unsafe { somniaret_rewrite(start(form), form.len(), to, out.len()) }
-    }
-}
-
-/// How the proved code is asked.
-enum Proved {
-    #[cfg(feature = "linked")]
-    Linked,
-    Served(Served),
-}
-
-impl Proved {
-    fn reach(program: &[String]) -> Result<Proved, String> {
-        if !program.is_empty() {
-            let served =
-                Served::start(program).map_err(|error| format!("{} does not start: {error}", program[0]))?;
-            return Ok(Proved::Served(served));
-        }
-        #[cfg(feature = "linked")]
-        return Ok(Proved::Linked);
-        #[cfg(not(feature = "linked"))]
-        Err("this build has no proved library in it (feature `linked`): name a program after --".to_string())
-    }
-
-    fn verdict(&mut self, form: &[u8]) -> Result<FormAnswer, String> {
-        match self {
-            #[cfg(feature = "linked")]
-            Proved::Linked => Ok(linked::verdict(form)),
-            Proved::Served(served) => ask(served, FORM_VERDICT, form, &mut Lent::none()),
-        }
-    }
-
-    fn rewrite(&mut self, form: &[u8], lent: &mut Lent) -> Result<FormAnswer, String> {
-        match self {
-            #[cfg(feature = "linked")]
-            Proved::Linked => Ok(linked::rewrite(form, lent)),
-            Proved::Served(served) => ask(served, FORM_REWRITE, form, lent),
-        }
-    }
-}
-
 /// The calls of `serve.c`, by number.
 const FORM_VERDICT: u64 = 1;
 const FORM_REWRITE: u64 = 2;
@@ -128,10 +60,10 @@ fn ask(served: &mut Served, call: u64, form: &[u8], lent: &mut Lent) -> Result<F
 }
 
 fn main() -> ExitCode {
-    let reached =
-        Arguments::read(INPUTS).and_then(|arguments| Ok((Proved::reach(&arguments.program)?, arguments)));
-    let (mut proved, Arguments { seed, inputs, .. }) = match reached {
-        Ok(reached) => reached,
+    let started =
+        Arguments::read(INPUTS).and_then(|arguments| Ok((Served::start(&arguments.program)?, arguments)));
+    let (mut served, Arguments { seed, inputs, .. }) = match started {
+        Ok(started) => started,
         Err(why) => {
             eprintln!("compare_form: {why}");
             return ExitCode::from(2);
@@ -143,7 +75,7 @@ fn main() -> ExitCode {
     let mut rewrites = Answers::default();
     let mut compare_one = |form: &[u8], own_seed: u64, what: &str| {
         verdicts.count(listed::verdict(form).number);
-        let compared = compare(&mut proved, &mut rewrites, form, own_seed);
+        let compared = compare(&mut served, &mut rewrites, form, own_seed);
         tally.check(compared.is_ok(), || format!("{what}: {}", compared.unwrap_err()));
     };
     compare_one(&trainer_form(), seed, "the trainer's form");
@@ -159,9 +91,8 @@ fn main() -> ExitCode {
 }
 
 /// One input by both programs; the error is the first difference.
-fn compare(proved: &mut Proved, rewrites: &mut Answers, form: &[u8], seed: u64) -> Result<(), String> {
-    let asked = form.to_vec();
-    let (got, wanted) = (proved.verdict(&asked)?, listed::verdict(form));
+fn compare(served: &mut Served, rewrites: &mut Answers, form: &[u8], seed: u64) -> Result<(), String> {
+    let (got, wanted) = (ask(served, FORM_VERDICT, form, &mut Lent::none())?, listed::verdict(form));
     if got != wanted {
         return Err(format!("verdict {got:?}, wanted {wanted:?}"));
     }
@@ -172,7 +103,7 @@ fn compare(proved: &mut Proved, rewrites: &mut Answers, form: &[u8], seed: u64) 
     for memory in lengths.map(Lent::new).into_iter().chain([Lent::none()]) {
         let (mut lent, mut mine) = (memory.clone(), memory);
         let length = mine.bytes().len();
-        let (got, wanted) = (proved.rewrite(&asked, &mut lent)?, listed::rewrite(form, &mut mine));
+        let (got, wanted) = (ask(served, FORM_REWRITE, form, &mut lent)?, listed::rewrite(form, &mut mine));
         rewrites.count(wanted.number);
         if got != wanted {
             return Err(format!("written into {length} bytes {got:?}, wanted {wanted:?}"));
@@ -183,9 +114,6 @@ fn compare(proved: &mut Proved, rewrites: &mut Answers, form: &[u8], seed: u64) 
         if wanted.number == 0 && lent.bytes()[..form.len()] != *form {
             return Err("the bytes written are not those read".to_string());
         }
-    }
-    if asked != form {
-        return Err("the form's own bytes were changed".to_string());
     }
     Ok(())
 }
