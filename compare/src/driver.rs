@@ -1,84 +1,180 @@
-//! What the comparison drivers share: their arguments, lent memory that shows what was written, and counts of answers.
+//! What the comparison drivers share: their arguments, and the run in which the proved code is asked and judged.
+//!
+//! A driver makes questions, here in one thread, while the program that has the proved code answers them and a second
+//! thread judges the answers in order. At the end it prints how often each call answered with each number, and which of
+//! the numbers it was to meet never came.
 
 use std::collections::BTreeMap;
 use std::env;
+use std::io::{BufReader, BufWriter, Write};
+use std::process::{exit, Child, ChildStdin, ChildStdout, ExitCode};
+use std::sync::mpsc::{channel, Receiver, Sender};
+use std::sync::Arc;
+use std::thread::{spawn, JoinHandle};
 
+use crate::calls::Listing;
+use crate::second;
+use crate::served::{Answer, Call, Numbers, Question, Served};
 use crate::tally::Tally;
 
 /// `DRIVER [SEED [INPUTS]] -- PROGRAM WORD..`: without a seed it is 1; the program answers for the proved code.
-pub struct Arguments {
-    pub seed: u64,
-    pub inputs: u64,
-    pub program: Vec<String>,
+struct Arguments {
+    seed: u64,
+    inputs: u64,
+    program: Vec<String>,
 }
 
 impl Arguments {
-    pub fn read(usual_inputs: u64) -> Result<Arguments, String> {
-        let mut words = env::args();
-        let usage = format!("usage: {} [SEED [INPUTS]] -- PROGRAM WORD..", words.next().unwrap_or_default());
+    fn read(usual_inputs: u64) -> Option<Arguments> {
+        let mut words = env::args().skip(1);
         let numbers: Result<Vec<u64>, _> =
             words.by_ref().take_while(|word| word != "--").map(|word| word.parse()).collect();
         let (seed, inputs) = match numbers.as_deref() {
             Ok([]) => (1, usual_inputs),
             Ok([seed]) => (*seed, usual_inputs),
             Ok([seed, inputs]) => (*seed, *inputs),
-            _ => return Err(usage),
+            _ => return None,
         };
         let program: Vec<String> = words.collect();
-        if program.is_empty() {
-            return Err(usage);
+        (!program.is_empty()).then_some(Arguments { seed, inputs, program })
+    }
+}
+
+/// Judges the answers to an input's questions; the error is what is wrong with them.
+type Judge = Box<dyn FnOnce(&[Question], &[Answer]) -> Result<(), String> + Send>;
+
+/// One input with the questions about it. It counts once.
+struct Input {
+    what: String,
+    questions: Arc<Vec<Question>>,
+    judge: Judge,
+}
+
+/// How often each call answered with each number.
+type Met = BTreeMap<(Call, u64), u64>;
+
+/// The run of a driver.
+pub struct Comparison {
+    pub seed: u64,
+    pub inputs: u64,
+    /// The driver's own checks, of what it was to meet.
+    pub tally: Tally,
+    child: Child,
+    questions: BufWriter<ChildStdin>,
+    to_judge: Sender<Input>,
+    judging: JoinHandle<(Tally, Met)>,
+    not_listed: u64,
+}
+
+impl Comparison {
+    /// Reads the arguments, starts the program and sees that it has the calls. Where it has not, the driver ends.
+    pub fn start(driver: &str, usual_inputs: u64, calls: &[Call]) -> Comparison {
+        let Some(Arguments { seed, inputs, program }) = Arguments::read(usual_inputs) else {
+            eprintln!("usage: {driver} [SEED [INPUTS]] -- PROGRAM WORD..");
+            exit(2);
+        };
+        println!("{driver}: seed {seed}, {inputs} inputs");
+        let started = Served::start(&program).and_then(|mut served| {
+            calls.iter().try_for_each(|call| served.ask(&Question::on(*call, &[])).map(|_| ()))?;
+            Ok(served)
+        });
+        let Served { child, questions, answers } = started.unwrap_or_else(|why| {
+            println!("{driver}: {why}\n0 passed, 1 failed");
+            exit(1);
+        });
+        let (to_judge, inputs_to_judge) = channel();
+        let judging = spawn(move || judge_all(inputs_to_judge, answers));
+        let tally = Tally::default();
+        Comparison { seed, inputs, tally, child, questions, to_judge, judging, not_listed: 0 }
+    }
+
+    /// Asks the questions, all about the listing's form, and holds the answers to the second program's, whose numbers are
+    /// returned. A question that it has no answer to is not asked.
+    pub fn compare(&mut self, what: String, listing: &Listing, questions: Vec<Question>) -> Vec<Numbers> {
+        let many = questions.len();
+        let (asked, wanted): (Vec<Question>, Vec<Answer>) = questions
+            .into_iter()
+            .filter_map(|question| second::answer(listing, &question).map(|answer| (question, answer)))
+            .unzip();
+        self.not_listed += (many - asked.len()) as u64;
+        let numbers = wanted.iter().map(|answer| answer.numbers).collect();
+        self.ask(what, asked, move |asked, answers| {
+            match (0..asked.len()).find(|at| answers[*at] != wanted[*at]) {
+                Some(at) => Err(difference(&asked[at], &answers[at], &wanted[at])),
+                None => Ok(()),
+            }
+        });
+        numbers
+    }
+
+    /// Asks the questions of an input, and has the answers judged.
+    pub fn ask(
+        &mut self,
+        what: String,
+        questions: Vec<Question>,
+        judge: impl FnOnce(&[Question], &[Answer]) -> Result<(), String> + Send + 'static,
+    ) {
+        let questions = Arc::new(questions);
+        // The answers must be read while the questions are written: neither pipe holds all of them.
+        let _ = self.to_judge.send(Input { what, questions: questions.clone(), judge: Box::new(judge) });
+        // Where the program has ended and nothing can be written, the judging thread misses the answer and says so.
+        let _ = questions.iter().try_for_each(|question| question.write(&mut self.questions));
+    }
+
+    /// Waits for the last answer. Prints how often each call answered with each number, and checks that each of the
+    /// numbers named came; then the last line and the exit status.
+    pub fn finish(mut self, must_come: &[(Call, &[u64])]) -> ExitCode {
+        let mut tally = self.tally;
+        let flushed = self.questions.flush();
+        drop((self.questions, self.to_judge));
+        let (judged, met) = self.judging.join().expect("the judging thread ends by itself");
+        tally.add(judged);
+        let ended_well = self.child.wait().is_ok_and(|status| status.success());
+        tally.check(flushed.is_ok() && ended_well, || {
+            "the program that has the proved code ended badly".to_string()
+        });
+        for (call, numbers) in must_come {
+            let counts = met.iter().filter(|((other, _), _)| other == call);
+            let counts: Vec<String> = counts.map(|((_, number), times)| format!("{number}: {times}")).collect();
+            println!("{} (0 is no refusal): {}", call.name(), counts.join(", "));
+            for number in *numbers {
+                let came = met.contains_key(&(*call, *number));
+                tally.check(came, || format!("{} never answered with {number}", call.name()));
+            }
         }
-        Ok(Arguments { seed, inputs, program })
-    }
-}
-
-/// So many bytes stand before and after lent memory and must stay as they are.
-const GUARD: usize = 32;
-
-/// Memory to lend: filled with a pattern, and with more of the pattern around it.
-#[derive(Clone, PartialEq, Eq, Debug)]
-pub struct Lent {
-    guard: usize,
-    all: Vec<u8>,
-}
-
-impl Lent {
-    pub fn new(length: usize) -> Lent {
-        Lent { guard: GUARD, all: (0..length + 2 * GUARD).map(|at| (at * 89 + 41) as u8).collect() }
-    }
-
-    /// No memory at all, lent as a null pointer.
-    pub fn none() -> Lent {
-        Lent { guard: 0, all: Vec::new() }
-    }
-
-    /// What is lent.
-    pub fn bytes(&mut self) -> &mut [u8] {
-        let end = self.all.len() - self.guard;
-        &mut self.all[self.guard..end]
-    }
-
-    /// The same with what stands around it, of this length before and after it.
-    pub fn with_guards(&mut self) -> (usize, &mut [u8]) {
-        (self.guard, &mut self.all)
-    }
-}
-
-/// How often each answer came: 0 for an answer, else the refusal's number.
-#[derive(Default)]
-pub struct Answers(BTreeMap<u64, u64>);
-
-impl Answers {
-    pub fn count(&mut self, number: u64) {
-        *self.0.entry(number).or_default() += 1;
-    }
-
-    /// Prints the counts and checks that each of these answers came.
-    pub fn finish(self, what: &str, tally: &mut Tally, all_of: &[u64]) {
-        let counts: Vec<String> = self.0.iter().map(|(number, times)| format!("{number}: {times}")).collect();
-        println!("{what} (0 is no refusal): {}", counts.join(", "));
-        for number in all_of {
-            tally.check(self.0.contains_key(number), || format!("{what}: {number} was never met"));
+        if self.not_listed > 0 {
+            println!("not asked, for there are too many ways to list: {}", self.not_listed);
         }
+        tally.finish()
     }
+}
+
+/// Reads and judges the answers, input by input. Where one does not come the driver ends.
+fn judge_all(inputs: Receiver<Input>, mut answers: BufReader<ChildStdout>) -> (Tally, Met) {
+    let mut tally = Tally::default();
+    let mut met = Met::new();
+    for Input { what, questions, judge } in inputs {
+        let read: Result<Vec<Answer>, String> =
+            questions.iter().map(|question| question.read_answer(&mut answers)).collect();
+        let answers = read.unwrap_or_else(|why| {
+            tally.check(false, || format!("{what}: {why}"));
+            tally.print();
+            exit(1);
+        });
+        for (question, answer) in questions.iter().zip(&answers) {
+            *met.entry((question.call, answer.numbers[0])).or_default() += 1;
+        }
+        let judged = judge(&questions, &answers);
+        tally.check(judged.is_ok(), || format!("{what}: {}", judged.unwrap_err()));
+    }
+    (tally, met)
+}
+
+/// How an answer differs from what was wanted.
+fn difference(question: &Question, got: &Answer, wanted: &Answer) -> String {
+    if got.numbers != wanted.numbers {
+        return format!("{question}: answered {:?}, wanted {:?}", got.numbers, wanted.numbers);
+    }
+    let place = got.memory.difference(&wanted.memory).expect("the answers differ");
+    format!("{question}: answered {:?} as wanted, but the memory is wrong from {place} on", got.numbers)
 }

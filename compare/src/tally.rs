@@ -30,9 +30,20 @@ impl Tally {
         self.check(good, || format!("{what}: got {got:?}, wanted {wanted:?}"));
     }
 
+    /// With what another counted.
+    pub fn add(&mut self, other: Tally) {
+        self.passed += other.passed;
+        self.failed += other.failed;
+    }
+
+    /// The last line.
+    pub fn print(&self) {
+        println!("{} passed, {} failed", self.passed, self.failed);
+    }
+
     /// The last line and the exit status: non-zero where anything failed or nothing was checked.
     pub fn finish(self) -> ExitCode {
-        println!("{} passed, {} failed", self.passed, self.failed);
+        self.print();
         if self.failed == 0 && self.passed > 0 {
             ExitCode::SUCCESS
         } else {
