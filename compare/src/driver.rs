@@ -7,15 +7,18 @@
 use std::collections::BTreeMap;
 use std::env;
 use std::io::{BufReader, BufWriter, Write};
+use std::iter;
 use std::process::{exit, Child, ChildStdin, ChildStdout, ExitCode};
 use std::sync::mpsc::{channel, Receiver, Sender};
 use std::sync::Arc;
 use std::thread::{spawn, JoinHandle};
 
 use crate::calls::Listing;
+use crate::example::trainer_form;
+use crate::generate::{generate, Kind};
 use crate::second;
 use crate::served::{Answer, Call, Numbers, Question, Served};
-use crate::tally::Tally;
+use crate::tally::{Met, Tally};
 
 /// `DRIVER [SEED [INPUTS]] -- PROGRAM WORD..`: without a seed it is 1; the program answers for the proved code.
 struct Arguments {
@@ -40,8 +43,15 @@ impl Arguments {
     }
 }
 
-/// Judges the answers to an input's questions; the error is what is wrong with them.
-type Judge = Box<dyn FnOnce(&[Question], &[Answer]) -> Result<(), String> + Send>;
+/// A form to compare on, what it is and its own seed.
+pub struct Form {
+    pub what: String,
+    pub bytes: Vec<u8>,
+    pub seed: u64,
+}
+
+/// Judges the answers to an input's questions, and may note what was met; the error is what is wrong with them.
+type Judge = Box<dyn FnOnce(&[Question], &[Answer], &mut Met) -> Result<(), String> + Send>;
 
 /// One input with the questions about it. It counts once.
 struct Input {
@@ -50,19 +60,29 @@ struct Input {
     judge: Judge,
 }
 
-/// How often each call answered with each number.
-type Met = BTreeMap<(Call, u64), u64>;
+/// What came of the answers.
+#[derive(Default)]
+struct Judged {
+    tally: Tally,
+    met: Met,
+    /// How often each call answered with each number.
+    numbers: BTreeMap<(Call, u64), u64>,
+}
+
+/// What an input is to have must be met so often.
+const AT_LEAST: u64 = 10;
 
 /// The run of a driver.
 pub struct Comparison {
     pub seed: u64,
     pub inputs: u64,
-    /// The driver's own checks, of what it was to meet.
+    /// What the inputs had that the driver is to meet, and its other checks.
+    pub met: Met,
     pub tally: Tally,
     child: Child,
     questions: BufWriter<ChildStdin>,
     to_judge: Sender<Input>,
-    judging: JoinHandle<(Tally, Met)>,
+    judging: JoinHandle<Judged>,
     not_listed: u64,
 }
 
@@ -84,8 +104,20 @@ impl Comparison {
         });
         let (to_judge, inputs_to_judge) = channel();
         let judging = spawn(move || judge_all(inputs_to_judge, answers));
-        let tally = Tally::default();
-        Comparison { seed, inputs, tally, child, questions, to_judge, judging, not_listed: 0 }
+        let (met, tally) = (Met::default(), Tally::default());
+        Comparison { seed, inputs, met, tally, child, questions, to_judge, judging, not_listed: 0 }
+    }
+
+    /// The trainer's form and as many of the generator as there are to be inputs; `kinds` says which, by seed and place.
+    pub fn forms(&self, kinds: fn(u64, u64) -> (Kind, u64)) -> impl Iterator<Item = Form> {
+        let (run_seed, inputs) = (self.seed, self.inputs);
+        let trainers = Form { what: "the trainer's form".to_string(), bytes: trainer_form(), seed: run_seed };
+        let generated = (0..inputs).map(move |place| {
+            let (kind, seed) = kinds(run_seed, place);
+            let what = format!("input {place}, `compare generate {} {seed}`", kind.name());
+            Form { what, bytes: generate(kind, seed), seed }
+        });
+        iter::once(trainers).chain(generated)
     }
 
     /// Asks the questions, all about the listing's form, and holds the answers to the second program's, whose numbers are
@@ -98,7 +130,7 @@ impl Comparison {
             .unzip();
         self.not_listed += (many - asked.len()) as u64;
         let numbers = wanted.iter().map(|answer| answer.numbers).collect();
-        self.ask(what, asked, move |asked, answers| {
+        self.ask(what, asked, move |asked, answers, _| {
             match (0..asked.len()).find(|at| answers[*at] != wanted[*at]) {
                 Some(at) => Err(difference(&asked[at], &answers[at], &wanted[at])),
                 None => Ok(()),
@@ -112,7 +144,7 @@ impl Comparison {
         &mut self,
         what: String,
         questions: Vec<Question>,
-        judge: impl FnOnce(&[Question], &[Answer]) -> Result<(), String> + Send + 'static,
+        judge: impl FnOnce(&[Question], &[Answer], &mut Met) -> Result<(), String> + Send + 'static,
     ) {
         let questions = Arc::new(questions);
         // The answers must be read while the questions are written: neither pipe holds all of them.
@@ -121,53 +153,54 @@ impl Comparison {
         let _ = questions.iter().try_for_each(|question| question.write(&mut self.questions));
     }
 
-    /// Waits for the last answer. Prints how often each call answered with each number, and checks that each of the
-    /// numbers named came; then the last line and the exit status.
-    pub fn finish(mut self, must_come: &[(Call, &[u64])]) -> ExitCode {
-        let mut tally = self.tally;
-        let flushed = self.questions.flush();
-        drop((self.questions, self.to_judge));
-        let (judged, met) = self.judging.join().expect("the judging thread ends by itself");
-        tally.add(judged);
-        let ended_well = self.child.wait().is_ok_and(|status| status.success());
+    /// Waits for the last answer. Prints what was met, and how often each call answered with each number, and checks that
+    /// the numbers named came; then the last line and the exit status.
+    pub fn finish(self, must_come: &[(Call, &[u64])]) -> ExitCode {
+        let Comparison { mut met, mut tally, mut child, mut questions, to_judge, judging, not_listed, .. } = self;
+        let flushed = questions.flush();
+        drop((questions, to_judge));
+        let judged = judging.join().expect("the judging thread ends by itself");
+        let ended_well = child.wait().is_ok_and(|status| status.success());
         tally.check(flushed.is_ok() && ended_well, || {
             "the program that has the proved code ended badly".to_string()
         });
-        for (call, numbers) in must_come {
-            let counts = met.iter().filter(|((other, _), _)| other == call);
-            let counts: Vec<String> = counts.map(|((_, number), times)| format!("{number}: {times}")).collect();
-            println!("{} (0 is no refusal): {}", call.name(), counts.join(", "));
-            for number in *numbers {
-                let came = met.contains_key(&(*call, *number));
-                tally.check(came, || format!("{} never answered with {number}", call.name()));
+        tally.add(judged.tally);
+        met.add(judged.met);
+        met.finish("inputs", &mut tally, AT_LEAST);
+        for (call, must_come) in must_come {
+            let of_call = judged.numbers.iter().filter(|((other, _), _)| other == call);
+            let counts: Vec<String> = of_call.map(|((_, number), times)| format!("{number}: {times}")).collect();
+            println!("{} answered {}", call.name(), counts.join(", "));
+            for number in *must_come {
+                let came = judged.numbers.contains_key(&(*call, *number));
+                tally.check(came, || format!("{} never answered {number}", call.name()));
             }
         }
-        if self.not_listed > 0 {
-            println!("not asked, for there are too many ways to list: {}", self.not_listed);
+        if not_listed > 0 {
+            println!("questions not asked, because there are too many ways to list: {not_listed}");
         }
         tally.finish()
     }
 }
 
 /// Reads and judges the answers, input by input. Where one does not come the driver ends.
-fn judge_all(inputs: Receiver<Input>, mut answers: BufReader<ChildStdout>) -> (Tally, Met) {
-    let mut tally = Tally::default();
-    let mut met = Met::new();
+fn judge_all(inputs: Receiver<Input>, mut answers: BufReader<ChildStdout>) -> Judged {
+    let mut judged = Judged::default();
     for Input { what, questions, judge } in inputs {
         let read: Result<Vec<Answer>, String> =
             questions.iter().map(|question| question.read_answer(&mut answers)).collect();
         let answers = read.unwrap_or_else(|why| {
-            tally.check(false, || format!("{what}: {why}"));
-            tally.print();
+            judged.tally.check(false, || format!("{what}: {why}"));
+            judged.tally.print();
             exit(1);
         });
         for (question, answer) in questions.iter().zip(&answers) {
-            *met.entry((question.call, answer.numbers[0])).or_default() += 1;
+            *judged.numbers.entry((question.call, answer.numbers[0])).or_default() += 1;
         }
-        let judged = judge(&questions, &answers);
-        tally.check(judged.is_ok(), || format!("{what}: {}", judged.unwrap_err()));
+        let verdict = judge(&questions, &answers, &mut judged.met);
+        judged.tally.check(verdict.is_ok(), || format!("{what}: {}", verdict.unwrap_err()));
     }
-    (tally, met)
+    judged
 }
 
 /// How an answer differs from what was wanted.

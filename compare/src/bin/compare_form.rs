@@ -7,9 +7,8 @@
 use std::process::ExitCode;
 
 use by_listing::calls::Listing;
-use by_listing::driver::Comparison;
-use by_listing::example::trainer_form;
-use by_listing::generate::{generate, mixed};
+use by_listing::driver::{Comparison, Form};
+use by_listing::generate::mixed;
 use by_listing::random::Random;
 use by_listing::served::{Call, Question};
 
@@ -17,23 +16,20 @@ const INPUTS: u64 = 30_000;
 
 fn main() -> ExitCode {
     let mut comparison = Comparison::start("compare_form", INPUTS, &[Call::Verdict, Call::Rewrite]);
-    compare(&mut comparison, "the trainer's form".to_string(), &trainer_form(), 0);
-    for place in 0..comparison.inputs {
-        let (kind, seed) = mixed(comparison.seed, place);
-        let what = format!("input {place}, `compare generate {} {seed}`", kind.name());
-        compare(&mut comparison, what, &generate(kind, seed), seed);
+    for form in comparison.forms(mixed) {
+        compare(&mut comparison, form);
     }
     let of_the_reader = [0, 10, 11, 12, 13, 14, 15, 16, 17, 18, 19];
     let of_the_writer = [&of_the_reader[..], &[42]].concat();
     comparison.finish(&[(Call::Verdict, &of_the_reader), (Call::Rewrite, &of_the_writer)])
 }
 
-fn compare(comparison: &mut Comparison, what: String, form: &[u8], seed: u64) {
+fn compare(comparison: &mut Comparison, Form { what, bytes: form, seed }: Form) {
     let mut random = Random::new(seed);
     let shorter = random.below(form.len().max(1));
     let longer = form.len() + 1 + random.below(40);
-    let lent = [0, shorter, form.len().saturating_sub(1), form.len(), longer].map(Some);
-    let mut questions = vec![Question::on(Call::Verdict, form)];
-    questions.extend(lent.into_iter().chain([None]).map(|lent| Question::on(Call::Rewrite, form).out(lent)));
-    comparison.compare(what, &Listing::of(form), questions);
+    let lent = [None, Some(0), Some(shorter), form.len().checked_sub(1), Some(form.len()), Some(longer)];
+    let mut questions = vec![Question::on(Call::Verdict, &form)];
+    questions.extend(lent.map(|lent| Question::on(Call::Rewrite, &form).out(lent)));
+    comparison.compare(what, &Listing::of(&form), questions);
 }
