@@ -20,6 +20,9 @@ use crate::second;
 use crate::served::{Answer, Call, Numbers, Question, Served};
 use crate::tally::{Met, Tally};
 
+/// All relations, and numbers above 5, which are none.
+pub const RELATIONS: [u8; 9] = [0, 1, 2, 3, 4, 5, 6, 128, 255];
+
 /// `DRIVER [SEED [INPUTS]] -- PROGRAM WORD..`: without a seed it is 1; the program answers for the proved code.
 struct Arguments {
     seed: u64,
@@ -121,7 +124,7 @@ impl Comparison {
     }
 
     /// Asks the questions, all about the listing's form, and holds the answers to the second program's, whose numbers are
-    /// returned. A question that it has no answer to is not asked.
+    /// returned. A question that it has no answer to is not asked, and an input without questions does not count.
     pub fn compare(&mut self, what: String, listing: &Listing, questions: Vec<Question>) -> Vec<Numbers> {
         let many = questions.len();
         let (asked, wanted): (Vec<Question>, Vec<Answer>) = questions
@@ -130,12 +133,14 @@ impl Comparison {
             .unzip();
         self.not_listed += (many - asked.len()) as u64;
         let numbers = wanted.iter().map(|answer| answer.numbers).collect();
-        self.ask(what, asked, move |asked, answers, _| {
-            match (0..asked.len()).find(|at| answers[*at] != wanted[*at]) {
-                Some(at) => Err(difference(&asked[at], &answers[at], &wanted[at])),
-                None => Ok(()),
-            }
-        });
+        if !asked.is_empty() {
+            self.ask(what, asked, move |asked, answers, _| {
+                match (0..asked.len()).find(|at| answers[*at] != wanted[*at]) {
+                    Some(at) => Err(difference(&asked[at], &answers[at], &wanted[at])),
+                    None => Ok(()),
+                }
+            });
+        }
         numbers
     }
 

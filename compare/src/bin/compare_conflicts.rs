@@ -10,16 +10,13 @@ use std::process::ExitCode;
 
 use by_listing::calls::Listing;
 use by_listing::conflict::{ASSIGNMENT_PAIR, EDGE_PAIR};
-use by_listing::driver::{Comparison, Form};
+use by_listing::driver::{Comparison, Form, RELATIONS};
 use by_listing::generate::mostly_small;
 use by_listing::random::Random;
 use by_listing::served::{Call, Question};
 use by_listing::tally::Met;
 
 const INPUTS: u64 = 26_000;
-
-/// Relations, among them some above 5.
-const RELATIONS: [u8; 9] = [0, 1, 2, 3, 4, 5, 6, 128, 255];
 
 fn main() -> ExitCode {
     let mut comparison = Comparison::start("compare_conflicts", INPUTS, &[Call::Conflicts, Call::Pair]);

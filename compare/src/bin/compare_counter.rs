@@ -8,7 +8,7 @@
 use std::process::ExitCode;
 
 use by_listing::calls::Listing;
-use by_listing::driver::Comparison;
+use by_listing::driver::{Comparison, RELATIONS};
 use by_listing::form::{Counter, HIGHEST_RELATION};
 use by_listing::generate::generate_counter;
 use by_listing::random::Random;
@@ -31,9 +31,6 @@ const TRAINERS: [(i32, i32, u8, i32); 9] = [
 
 const STEPS: [i32; 13] =
     [0, 1, -1, 2, -2, 3, -3, i32::MAX, i32::MIN, i32::MIN + 1, 1 << 30, -(1 << 30), 1_000_003];
-
-/// Relations, among them some above 5.
-const RELATIONS: [u8; 9] = [0, 1, 2, 3, 4, 5, 6, 128, 255];
 
 fn main() -> ExitCode {
     let mut comparison = Comparison::start("compare_counter", INPUTS, &[Call::Count]);

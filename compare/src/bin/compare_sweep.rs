@@ -14,13 +14,10 @@ use by_listing::driver::{Comparison, Form};
 use by_listing::form::MOST_BLOCKS;
 use by_listing::generate::mostly_small;
 use by_listing::random::Random;
-use by_listing::rows::ROW_ENTRIES;
+use by_listing::rows::ROW_WORDS;
 use by_listing::served::{Call, Question};
 
 const INPUTS: u64 = 26_000;
-
-/// A row of the table in words.
-const ROW_WORDS: usize = 5 * ROW_ENTRIES;
 
 /// What the sweeps of bodies of 10 to 24 blocks were answered with.
 #[derive(Default)]
@@ -80,6 +77,7 @@ fn compare(comparison: &mut Comparison, larger: &mut Larger, form: Form) {
     comparison.met.note("24 blocks", blocks == 24);
     comparison.met.note("25 blocks", blocks == 25);
     comparison.met.note("26 to 64 blocks", blocks > 25);
+    comparison.met.note("44 at 1600", answers.iter().any(|numbers| numbers[..2] == [44, 1_600]));
     if let (10..=24, Some([number, place, .., kept])) = (blocks, answers.first()) {
         match number {
             0 => *larger.kept.entry(*kept).or_default() += 1,

@@ -12,7 +12,7 @@ use by_listing::calls::MOST_WAYS;
 use by_listing::driver::{Comparison, Form};
 use by_listing::form::{read, MOST_BLOCKS};
 use by_listing::generate::mostly_wide;
-use by_listing::rows::ROW_ENTRIES;
+use by_listing::rows::ROW_WORDS;
 use by_listing::served::{Answer, Call, Question};
 use by_listing::ways::ways_to_list;
 
@@ -20,9 +20,6 @@ const INPUTS: u64 = 5_000;
 
 /// The walk's budget.
 const BUDGET: u32 = 20_000;
-
-/// A row of the table in words.
-const ROW_WORDS: usize = 5 * ROW_ENTRIES;
 
 fn main() -> ExitCode {
     let mut comparison = Comparison::start("compare_ways", INPUTS, &[Call::Walk, Call::Sweep, Call::SweepTable]);
