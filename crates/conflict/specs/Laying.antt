@@ -29,7 +29,7 @@ pub record Laid (before : List ℕ) (start : ℕ) (done out : List ℕ) (at : �
   pub bytes : out ≡ sets before start done
   pub place : at ≡ start + length done
 
-sets-more : (a b l : List ℕ) (i : ℕ) → sets (sets l i a) (i + length a) b ≡ sets l i (a ++ b)
+pub sets-more : (a b l : List ℕ) (i : ℕ) → sets (sets l i a) (i + length a) b ≡ sets l i (a ++ b)
 sets-more [] b l i = ap (λ n. sets l n b) (none i)
   where
     none : (i : ℕ) → i + 0 ≡ i
@@ -105,3 +105,20 @@ pub word-done : (before : List ℕ) (start kind word third other another second 
     → (at ≡ start + length (wordBytes kind word third other another second outcome)) × (out ≡ sets before start (wordBytes kind word third other another second outcome))
 unfolding wordBytes
 word-done before start kind word third other another second outcome out at f e l = let m = rw e at l in (m .place, m .bytes)
+
+-- ---- the two kinds of an edge's entries
+module _ (assigned jump fall variable second outcome : ℕ) where
+  abbrev assignments : List ℕ
+  assignments = wordBytes 1 assigned variable 0 0 second outcome
+
+  abbrev edges : List ℕ
+  edges = wordBytes 2 jump 1 fall 2 second outcome
+
+  pub edge-length : length (edgeBytes assigned jump fall variable second outcome) ≡ length assignments + length edges
+  unfolding edgeBytes
+  edge-length = length-append assignments edges
+
+  pub edge-done : (before out out′ : List ℕ) (start at at′ : ℕ) → at ≡ start + length assignments → out ≡ sets before start assignments → at′ ≡ at + length edges → out′ ≡ sets out at edges
+      → (at′ ≡ start + length (edgeBytes assigned jump fall variable second outcome)) × (out′ ≡ sets before start (edgeBytes assigned jump fall variable second outcome))
+  unfolding edgeBytes
+  edge-done before out out′ start at at′ a b c d = (omega (arith, length-append assignments edges), d ∙ (λ i. sets (b i) (a i) edges) ∙ sets-more assignments edges before start)

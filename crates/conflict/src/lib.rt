@@ -645,7 +645,16 @@ pub fn sets_of(body: form::Body) -> Sets
 // ---- the list
 
 // An entry's five bytes into `out` at `at`, where there is one; the place after it.
-fn entry(out: &mut [u8], at: usize, on: bool, kind: u8, first: usize, third: u8, second: usize, outcome: u8) -> usize
+fn entry(
+    out: &mut [u8],
+    at: usize,
+    on: bool,
+    kind: u8,
+    first: usize,
+    third: u8,
+    second: usize,
+    outcome: u8,
+) -> usize
     requires { ⌜ ((first < 256) × (second < 256)) × (at + length (entryBytes on kind first third second outcome) ≤ length (now out)) ⌝ }
     ensures { λ r. ⌜ (r ≡ at + length (entryBytes on kind first third second outcome)) × (now (out .exit) ≡ sets (now (out .entry)) at (entryBytes on kind first third second outcome)) ⌝ }
 {
@@ -661,7 +670,17 @@ fn entry(out: &mut [u8], at: usize, on: bool, kind: u8, first: usize, third: u8,
 }
 
 // The entries of one kind of an edge, by the first block: those of a word, and beside each those of another.
-fn entries(out: &mut [u8], start: usize, kind: u8, word: u64, third: u8, other: u64, another: u8, second: usize, outcome: u8) -> usize
+fn entries(
+    out: &mut [u8],
+    start: usize,
+    kind: u8,
+    word: u64,
+    third: u8,
+    other: u64,
+    another: u8,
+    second: usize,
+    outcome: u8,
+) -> usize
     requires { ⌜ (second < 256) × (start + length (wordBytes kind word third other another second outcome) ≤ length (now out)) ⌝ }
     ensures { λ r. ⌜ (r ≡ start + length (wordBytes kind word third other another second outcome)) × (now (out .exit) ≡ sets (now (out .entry)) start (wordBytes kind word third other another second outcome)) ⌝ }
 {
@@ -678,7 +697,16 @@ fn entries(out: &mut [u8], start: usize, kind: u8, word: u64, third: u8, other: 
 }
 
 // The entries of an edge: its assignments, then its edges.
-fn edge_entries(out: &mut [u8], at: usize, assigned: u64, jump: u64, fall: u64, variable: u8, second: usize, outcome: u8) -> usize
+fn edge_entries(
+    out: &mut [u8],
+    at: usize,
+    assigned: u64,
+    jump: u64,
+    fall: u64,
+    variable: u8,
+    second: usize,
+    outcome: u8,
+) -> usize
     requires { ⌜ (second < 256) × (at + length (edgeBytes assigned jump fall variable second outcome) ≤ length (now out)) ⌝ }
     ensures { λ r. ⌜ (r ≡ at + length (edgeBytes assigned jump fall variable second outcome)) × (now (out .exit) ≡ sets (now (out .entry)) at (edgeBytes assigned jump fall variable second outcome)) ⌝ }
 {

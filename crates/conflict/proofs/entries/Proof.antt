@@ -32,8 +32,8 @@ entry-requires c κs =
     let at = c .before .before .before .before in
     let start = at .before .before in
     let room =
-        turn-room (start .args .out .now) (start .args .start) (start .args .kind) (start .args .word) (start .args .third) (start .args .other) (start .args .another) (start .args .second) (start .args .outcome) (at .loop .out) (at .loop .at) (at .loop .f) _ _
-        (c .before .before .has .ensures) (c .before .has2 .ensures) (at .loop .inv .1) (omega arith) (start .pre .1) in
+    turn-room (start .args .out .now) (start .args .start) (start .args .kind) (start .args .word) (start .args .third) (start .args .other) (start .args .another) (start .args .second) (start .args .outcome) (at .loop .out) (at .loop .at) (at .loop .f) _ _
+    (c .before .before .has .ensures) (c .before .has2 .ensures) (at .loop .inv .1) (omega arith) (start .pre .1) in
     ((omega arith, start .pre .0), omega arith)
 
 entry-requires-2 : tie.Need-entry-requires-2 Inv-loop μ-loop
@@ -42,8 +42,8 @@ entry-requires-2 c κs =
     let start = at .before .before in
     let first = c .before .before .before in
     let room =
-        turn-room (start .args .out .now) (start .args .start) (start .args .kind) (start .args .word) (start .args .third) (start .args .other) (start .args .another) (start .args .second) (start .args .outcome) (at .loop .out) (at .loop .at) (at .loop .f) _ _
-        (c .before .before .before .before .before .before .has .ensures) (c .before .before .before .before .before .has2 .ensures) (at .loop .inv .1) (omega arith) (start .pre .1) in
+    turn-room (start .args .out .now) (start .args .start) (start .args .kind) (start .args .word) (start .args .third) (start .args .other) (start .args .another) (start .args .second) (start .args .outcome) (at .loop .out) (at .loop .at) (at .loop .f) _ _
+    (c .before .before .before .before .before .before .has .ensures) (c .before .before .before .before .before .has2 .ensures) (at .loop .inv .1) (omega arith) (start .pre .1) in
     ((omega arith, start .pre .0), omega (arith, first .entry .ensures .0, first .entry .kept .0))
 
 add-f : tie.Need-add-f Inv-loop μ-loop
@@ -57,10 +57,11 @@ loop-again c =
     let at = c .before .before .before .before .before .before .before .before .before .before .before in
     let start = at .before .before in
     let first = c .before .before .before .before .before .before in
-    let second = c .before .before in
-    ( omega arith
-    , turn-next (start .args .out .now) (start .args .start) (start .args .kind) (start .args .word) (start .args .third) (start .args .other) (start .args .another) (start .args .second) (start .args .outcome) (at .loop .out) (at .loop .at) (at .loop .f) _ _
-      (c .before .before .before .before .before .before .before .before .before .has .ensures) (c .before .before .before .before .before .before .before .before .has2 .ensures) (at .loop .inv .1) _ _ _ _ (first .entry .ensures .0) (first .entry .ensures .1) (second .entry2 .ensures .0) (second .entry2 .ensures .1) )
+    let second = c .before .before in (
+      omega arith,
+      turn-next (start .args .out .now) (start .args .start) (start .args .kind) (start .args .word) (start .args .third) (start .args .other) (start .args .another) (start .args .second) (start .args .outcome) (at .loop .out) (at .loop .at) (at .loop .f) _ _
+          (c .before .before .before .before .before .before .before .before .before .has .ensures) (c .before .before .before .before .before .before .before .before .has2 .ensures) (at .loop .inv .1) _ _ _ _ (first .entry .ensures .0) (first .entry .ensures .1) (second .entry2 .ensures .0) (second .entry2 .ensures .1),
+    )
 
 same-length : tie.Need-same-length Inv-loop μ-loop
 same-length c = laid-length _ _ _ _ _ (c .before .loop .inv .1)

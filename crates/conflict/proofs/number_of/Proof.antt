@@ -66,18 +66,20 @@ loop-again c =
     let at = c .before .before .before .before .before .before .before in
     let a = at .before .before .before .before .args in
     let more : at .loop .n + (c .before .before .before .before .ones .result + (c .before .before .ones2 .result + c .ones3 .result)) ≡ sum (at .loop .s) (λ i. ones (getD (a .a .now) i 0) + (ones (getD (a .j .now) i 0) + ones (getD (a .f .now) i 0))) + (ones (getD (a .a .now) (at .loop .s) 0) + (ones (getD (a .j .now) (at .loop .s) 0) + ones (getD (a .f .now) (at .loop .s) 0))) =
-        λ i. at .loop .inv .2 i + (c .before .before .before .before .ones .ensures .0 i + (c .before .before .ones2 .ensures .0 i + c .ones3 .ensures .0 i)) in
-    ( omega arith
-    , omega (arith, c .before .before .before .before .ones .ensures .1, c .before .before .ones2 .ensures .1, c .ones3 .ensures .1, at .loop .inv .1)
-    , more ∙ sym (sum-last (at .loop .s) (λ i. ones (getD (a .a .now) i 0) + (ones (getD (a .j .now) i 0) + ones (getD (a .f .now) i 0)))) )
+    λ i. at .loop .inv .2 i + (c .before .before .before .before .ones .ensures .0 i + (c .before .before .ones2 .ensures .0 i + c .ones3 .ensures .0 i)) in (
+      omega arith,
+      omega (arith, c .before .before .before .before .ones .ensures .1, c .before .before .ones2 .ensures .1, c .ones3 .ensures .1, at .loop .inv .1),
+      more ∙ sym (sum-last (at .loop .s) (λ i. ones (getD (a .a .now) i 0) + (ones (getD (a .j .now) i 0) + ones (getD (a .f .now) i 0)))),
+    )
 
 returns : tie.Need-returns Inv-loop μ-loop
 returns c =
     let at = c .before in
     let a = at .before .before .before .before .args in
-    let all : at .loop .s ≡ 64 = omega arith in
-    ( at .loop .inv .2 ∙ ap (λ (n : ℕ). sum n (λ i. ones (getD (a .a .now) i 0) + (ones (getD (a .j .now) i 0) + ones (getD (a .f .now) i 0)))) all
-    , omega arith )
+    let all : at .loop .s ≡ 64 = omega arith in (
+      at .loop .inv .2 ∙ ap (λ (n : ℕ). sum n (λ i. ones (getD (a .a .now) i 0) + (ones (getD (a .j .now) i 0) + ones (getD (a .f .now) i 0)))) all,
+      omega arith,
+    )
 
 pub number-of-spec : {M : Type 1} → statement M
 number-of-spec =
