@@ -6,3 +6,4 @@ pub mod Turns
 pub mod Reaching
 pub mod Finding
 pub mod Laying
+pub mod Listing
