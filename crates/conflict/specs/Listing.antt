@@ -4,9 +4,10 @@ use mathlib.Core.Path.{_≡_, refl, sym, ap, ap₂, subst, _∙_}
 use mathlib.Core.Bool.{Bool, true, false, cond, _||_, _&&_}
 use mathlib.Core.List.{List, [], _∷_, _++_, append-nil}
 use Prim.Native.Nat.{ℕ, zero, suc, _+_, _*_, _^_, _≤_, _<_}
+use native.Mathlib.Nat.{zero-add}
 use native.Mathlib.Omega.{arith}
 use lib.Count.{ones}
-use lib.ListN.{length, getD, length-append}
+use lib.ListN.{length, getD, drop, length-append}
 use lib.Seq.{sets, sets-eq}
 use Rattle.laws.specs.Terms.{Mem, digit, bit, each, range, setOf}
 use Rattle.laws.specs.Lists.{each-same, each-append, range-out}
@@ -18,7 +19,7 @@ use Rattle.form.specs.Conflict.{Edge, Pair, block, condition, assigned, assignm
 use Rattle.relations.specs.Joined.{byJump, byFall, edgePairs, past-count, denies-none, no-test, opposes-first, assigned-none, jump-none, fall-none, conflicts-by-edge}
 use Rattle.conflict.specs.declared.Firsts.{Firsts}
 use Rattle.conflict.specs.Parts.{FirstsBy}
-use Rattle.conflict.specs.Laying.{entryBytes, turnBytes, wordBytes, edgeBytes}
+use Rattle.conflict.specs.Laying.{entryBytes, turnBytes, wordBytes, edgeBytes, Laid, laid-next, laid-room}
 
 abbrev pairBytes : Pair → List ℕ
 pairBytes p = p .kind ∷ p .first ∷ p .third ∷ p .second ∷ p .outcome ∷ []
@@ -133,3 +134,34 @@ module _ (body : Body) (few : body .count ≤ 64) where
 pub bytes-length : (body : Body) → length (conflictBytes body) ≡ 5 * length (conflicts body)
 unfolding conflictBytes
 bytes-length body = fives (conflicts body)
+
+-- ---- the lent bytes
+
+pub record Rows (variable a1 j1 f1 a2 j2 f2 : List ℕ) : Type 0 where
+  pub variables : length variable ≡ 64
+  pub first : (length a1 ≡ 64) × ((length j1 ≡ 64) × (length f1 ≡ 64))
+  pub second : (length a2 ≡ 64) × ((length j2 ≡ 64) × (length f2 ≡ 64))
+
+-- the list from the first byte on
+pub from-start : (list out : List ℕ) → length list ≤ length out → sets out 0 list ≡ list ++ drop (length list) out
+from-start list out h = sets-eq list out 0 (omega arith) ∙ ap (λ n. list ++ drop n out) (zero-add (length list))
+
+-- one turn of the loop by blocks
+module _ (before variable a1 j1 f1 a2 j2 f2 out : List ℕ) (at s : ℕ) (l : Laid before 0 (each (range 0 s) (blockBytes variable a1 j1 f1 a2 j2 f2)) out at) where
+  abbrev one : List ℕ
+  one = edgeBytes (getD a1 s 0) (getD j1 s 0) (getD f1 s 0) (getD variable s 0) s 1
+
+  abbrev two : List ℕ
+  two = edgeBytes (getD a2 s 0) (getD j2 s 0) (getD f2 s 0) (getD variable s 0) s 2
+
+  pub all-room : s < 64 → 0 + length (allBytes variable a1 j1 f1 a2 j2 f2) ≤ length before → at + length one + length two ≤ length out
+  unfolding allBytes
+  all-room h room = laid-room before 0 (blockBytes variable a1 j1 f1 a2 j2 f2) 64 s one two out at refl h room l
+
+  pub all-next : (out′ out″ : List ℕ) (at′ at″ : ℕ) → at′ ≡ at + length one → out′ ≡ sets out at one → at″ ≡ at′ + length two → out″ ≡ sets out′ at′ two
+      → Laid before 0 (each (range 0 (s + 1)) (blockBytes variable a1 j1 f1 a2 j2 f2)) out″ at″
+  all-next out′ out″ at′ at″ a b c d = laid-next before 0 (blockBytes variable a1 j1 f1 a2 j2 f2) s one two out out′ out″ at at′ at″ refl l a b c d
+
+  pub all-done : s ≡ 64 → (at ≡ 0 + length (allBytes variable a1 j1 f1 a2 j2 f2)) × (out ≡ sets before 0 (allBytes variable a1 j1 f1 a2 j2 f2))
+  unfolding allBytes
+  all-done e = let m = rw e at l in (m .place, m .bytes)
