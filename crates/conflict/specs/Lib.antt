@@ -8,3 +8,4 @@ pub mod Reaching
 pub mod Finding
 pub mod Laying
 pub mod Listing
+pub mod Answered

@@ -17,6 +17,9 @@ use Rattle.words.specs.Sums.{sum, sum-same, sum-add, ones-sum, length-each}
 use Rattle.form.specs.declared.Body.{Body}
 use Rattle.form.specs.Conflict.{Edge, Pair, block, condition, assigned, assignmentPair, edgePair, opposes, denies, conflicts, conflictBytes}
 use Rattle.relations.specs.Joined.{byJump, byFall, edgePairs, past-count, denies-none, no-test, opposes-first, assigned-none, jump-none, fall-none, conflicts-by-edge}
+use borrow.Author.Tests.{lt-ltb, le-ltb}
+use Rattle.conflict.specs.declared.Listed.the-variants.{Bytes, Unlisted}
+use Rattle.conflict.specs.Answer.{listedIn}
 use Rattle.conflict.specs.declared.Firsts.{Firsts}
 use Rattle.conflict.specs.Parts.{FirstsBy}
 use Rattle.conflict.specs.Laying.{entryBytes, turnBytes, wordBytes, edgeBytes, Laid, laid-next, laid-room}
@@ -165,3 +168,17 @@ module _ (before variable a1 j1 f1 a2 j2 f2 out : List ℕ) (at s : ℕ) (l : La
   pub all-done : s ≡ 64 → (at ≡ 0 + length (allBytes variable a1 j1 f1 a2 j2 f2)) × (out ≡ sets before 0 (allBytes variable a1 j1 f1 a2 j2 f2))
   unfolding allBytes
   all-done e = let m = rw e at l in (m .place, m .bytes)
+
+-- ---- the answer for a body
+module _ (body : Body) (n room : ℕ) (is : n ≡ length (conflicts body)) where
+  needed : 5 * n ≡ length (conflictBytes body)
+  needed = omega (arith, bytes-length body)
+
+  pub too-few : room < 5 * n → Unlisted 42 (5 * n) ≡ listedIn body room
+  too-few h = let k : room < length (conflictBytes body) = omega (arith, needed) in rw (lt-ltb room (length (conflictBytes body)) k) (ap (Unlisted 42) needed)
+
+  pub enough : (end : ℕ) → 5 * n ≤ room → end ≡ 0 + length (conflictBytes body) → Bytes end ≡ listedIn body room
+  enough end h e = let k : length (conflictBytes body) ≤ room = omega (arith, needed) in rw (le-ltb room (length (conflictBytes body)) k) (ap Bytes (omega arith))
+
+  pub has-room : 5 * n ≤ room → length (conflictBytes body) ≤ room
+  has-room h = omega (arith, needed)

@@ -751,7 +751,16 @@ fn number_of(a: &[u64], j: &[u64], f: &[u64]) -> usize
 }
 
 // The whole list, block by block.
-fn all_entries(out: &mut [u8], variable: &[u8], a1: &[u64], j1: &[u64], f1: &[u64], a2: &[u64], j2: &[u64], f2: &[u64]) -> usize
+fn all_entries(
+    out: &mut [u8],
+    variable: &[u8],
+    a1: &[u64],
+    j1: &[u64],
+    f1: &[u64],
+    a2: &[u64],
+    j2: &[u64],
+    f2: &[u64],
+) -> usize
     requires { ⌜ Rows (now variable) (now a1) (now j1) (now f1) (now a2) (now j2) (now f2) × (0 + length (allBytes (now variable) (now a1) (now j1) (now f1) (now a2) (now j2) (now f2)) ≤ length (now out)) ⌝ }
     ensures { λ r. ⌜ (r ≡ 0 + length (allBytes (now (variable .entry)) (now (a1 .entry)) (now (j1 .entry)) (now (f1 .entry)) (now (a2 .entry)) (now (j2 .entry)) (now (f2 .entry)))) × (now (out .exit) ≡ sets (now (out .entry)) 0 (allBytes (now (variable .entry)) (now (a1 .entry)) (now (j1 .entry)) (now (f1 .entry)) (now (a2 .entry)) (now (j2 .entry)) (now (f2 .entry)))) ⌝ }
 {

@@ -86,10 +86,11 @@ loop-again c =
     let at = c .before .before .before .before .before .before .before .before .before .before .before .before .before .before .before .before in
     let a = at .before .before .before .before .before .before .before .before .before .args in
     let first = c .before .before .before .before .before .before .before .before .before in
-    let second = c .before .before in
-    ( omega arith
-    , all-next (a .out .now) (a .variable .now) (a .a1 .now) (a .j1 .now) (a .f1 .now) (a .a2 .now) (a .j2 .now) (a .f2 .now) (at .loop .out) (at .loop .at) (at .loop .s) (at .loop .inv .1) _ _ _ _
-      (first .edge-entries .ensures .0) (first .edge-entries .ensures .1) (second .edge-entries2 .ensures .0) (second .edge-entries2 .ensures .1) )
+    let second = c .before .before in (
+      omega arith,
+      all-next (a .out .now) (a .variable .now) (a .a1 .now) (a .j1 .now) (a .f1 .now) (a .a2 .now) (a .j2 .now) (a .f2 .now) (at .loop .out) (at .loop .at) (at .loop .s) (at .loop .inv .1) _ _ _ _
+          (first .edge-entries .ensures .0) (first .edge-entries .ensures .1) (second .edge-entries2 .ensures .0) (second .edge-entries2 .ensures .1),
+    )
 
 same-length : tie.Need-same-length Inv-loop μ-loop
 same-length c = laid-length _ _ _ _ _ (c .before .loop .inv .1)

@@ -14,9 +14,10 @@ found-number-requires c κs = search needs
 returns : tie.Need-returns
 returns c =
     let f = c .before .find .ensures in
-    let start = c .before .before in
-    ( c .found-number .ensures .0 ∙ number-is (start .args .body) (start .pre .few) _ _ _ (f .variables) (f .jumped) (f .fallen)
-    , c .found-number .ensures .1 )
+    let start = c .before .before in (
+      c .found-number .ensures .0 ∙ number-is (start .args .body) (start .pre .few) _ _ _ (f .variables) (f .jumped) (f .fallen),
+      c .found-number .ensures .1,
+    )
 
 pub entries-of-spec : {M : Type 1} → statement M
 entries-of-spec = tie.close (tie.spec find-requires found-number-requires returns)
