@@ -9,3 +9,4 @@ pub mod Finding
 pub mod Laying
 pub mod Listing
 pub mod Answered
+pub mod Uniqueness
