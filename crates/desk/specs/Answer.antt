@@ -1,6 +1,6 @@
 -- What the exported calls return. Trusted: each number of an answer, from the answers of the layers below; 0 as number is no refusal.
 use mathlib.Core.List.{List}
-use Prim.Native.Nat.{ℕ}
+use Prim.Native.Nat.{ℕ, _/_}
 use lib.ListN.{length}
 use Rattle.form.specs.declared.Verdict.{Verdict}
 use Rattle.form.specs.declared.Written.{Written}
@@ -11,6 +11,9 @@ use Rattle.counter.specs.Answer as Counter
 use Rattle.routes.specs.WalkAnswer as Walk
 use Rattle.desk.specs.declared.CountAnswer.{CountAnswer}
 use Rattle.desk.specs.declared.FormAnswer.{FormAnswer}
+use Rattle.conflict.specs.declared.Listed.{Listed}
+use Rattle.conflict.specs.Answer as Conflict
+use Rattle.desk.specs.declared.ListNumbers.{ListNumbers}
 use Rattle.desk.specs.declared.WalkNumbers.{WalkNumbers}
 
 abbrev pub formAnswer : ℕ → ℕ → FormAnswer
@@ -47,3 +50,7 @@ walkValues answer =
       bound = answer .bound;
       walked = answer .walked;
     }
+
+-- The conflict list's; an entry has 5 bytes
+abbrev pub listNumbers : Listed → ListNumbers
+listNumbers r = record { number = Conflict.numberOf r; place = Conflict.placeOf r; entries = Conflict.bytesOf r / 5 }

@@ -2,10 +2,15 @@
 // returns their numbers by value, so that a refusal writes to no lent memory. A part of no bytes may have any pointer.
 ghost use mathlib.Core.Path.{_≡_};
 ghost use lib.ListN.{length};
-ghost use Rattle.form.specs.Form.{judge};
+ghost use Rattle.laws.specs.Terms.{digit};
+ghost use Rattle.form.specs.Form.{judge, bodyOf};
+ghost use Rattle.form.specs.Conflict.{conflictBytes};
+ghost use Rattle.conflict.specs.Pair.{conflicting};
+ghost use Rattle.conflict.specs.Answer.{listing, heldAfter};
 ghost use Rattle.counter.specs.Answer.{Owed};
 ghost use Rattle.routes.specs.WalkAnswer.{said, WalkOwed};
-ghost use Rattle.desk.specs.Answer.{countValues, walkValues, formAnswer, verdictAnswer, writtenAnswer, rewriteAnswer, rewriteHeld};
+ghost use Rattle.desk.specs.Answer.{countValues, walkValues, listNumbers, formAnswer, verdictAnswer, writtenAnswer, rewriteAnswer, rewriteHeld};
+use conflict::Listed;
 use counter::Counted;
 use form::Verdict;
 use form::Written;
@@ -24,6 +29,14 @@ pub struct CountAnswer {
     pub number: u64,
     pub place: u64,
     pub iterations: u64,
+}
+
+// The numbers of the conflict list.
+#[repr(C)]
+pub struct ListNumbers {
+    pub number: u64,
+    pub place: u64,
+    pub entries: u64,
 }
 
 // The numbers of the full walk.
@@ -100,6 +113,39 @@ pub extern "C" fn somniaret_rewrite(bytes: &[u8], out: &mut [u8]) -> FormAnswer
     }
     let body = reading.body;
     of_written(form::write(body, out))
+}
+
+// Whether two conditions on one variable conflict: 1, or 0 where some whole number meets both.
+#[no_mangle]
+pub extern "C" fn somniaret_pair(relation1: u8, constant1: i32, relation2: u8, constant2: i32) -> u8
+    ensures { λ r. ⌜ r ≡ digit (conflicting relation1 constant1 relation2 constant2) ⌝ }
+{
+    conflict::conflict_pair(relation1, constant1, relation2, constant2)
+}
+
+fn of_listed(listed: Listed) -> ListNumbers
+    ensures { λ r. ⌜ r ≡ listNumbers listed ⌝ }
+{
+    match listed {
+        Listed::Bytes(count) => ListNumbers {
+            number: 0,
+            place: 0,
+            entries: (count / 5) as u64,
+        },
+        Listed::Unlisted { number, place } => ListNumbers {
+            number: number as u64,
+            place: place as u64,
+            entries: 0,
+        },
+    }
+}
+
+// The conflict list of a form, 5 bytes an entry, in the lent bytes; or a refusal, which changes none.
+#[no_mangle]
+pub extern "C" fn somniaret_conflicts(bytes: &[u8], out: &mut [u8]) -> ListNumbers
+    ensures { λ r. ⌜ (r ≡ listNumbers (listing (now (bytes .entry)) (length (now (out .entry))))) × (now (out .exit) ≡ heldAfter (listing (now (bytes .entry)) (length (now (out .entry)))) (conflictBytes (bodyOf (now (bytes .entry)))) (now (out .entry))) ⌝ }
+{
+    of_listed(conflict::conflicts(bytes, out))
 }
 
 fn of_walk(walk: WalkAnswer) -> WalkNumbers
