@@ -10,3 +10,5 @@ pub mod Laying
 pub mod Listing
 pub mod Answered
 pub mod Uniqueness
+pub mod SetBits
+pub mod Marked
