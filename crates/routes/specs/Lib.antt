@@ -1,2 +1,3 @@
 -- The definitions and laws of the upper layer.
 pub mod Plan
+pub mod Entries

@@ -1,1 +1,2 @@
 // The upper layer: the full walk and the sweep. It calls form, counter and conflict and knows them by their contracts alone.
+pub mod sweep;

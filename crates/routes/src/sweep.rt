@@ -1,0 +1,156 @@
+// The sweep, over a plan: from the last block down, row by row, into a lent table of flat words. An entry is five words: jump set, fall set, weight, the
+// blocks left by jump or go, the blocks left by fall. The row under construction is a local array and is stored only when it is whole.
+ghost use mathlib.Core.Path.{_≡_};
+ghost use mathlib.Core.Bool.{Bool, true, false, cond, _&&_};
+ghost use Prim.Native.Nat.{ℕ, suc, _+_, _*_, _<_, _≤_};
+ghost use lib.Dec.{eqb, ltb};
+ghost use lib.ListN.{length, getD};
+ghost use Rattle.laws.specs.Terms.{next, heavier};
+ghost use Rattle.theory.specs.Row.{keyBefore};
+ghost use Rattle.theory.specs.Ties.{earlier};
+ghost use Rattle.routes.specs.Entries.{entryOf, entryAt, entriesFrom, betterOf, inserted, entryPut, Place, Moved, Squeezed, Grown};
+
+// Whether the first key comes before the second: by the jump set, then by the fall set.
+fn before(jumps: u64, falls: u64, jumps2: u64, falls2: u64) -> bool
+    ensures { λ r. ⌜ r ≡ keyBefore (jumps, falls) (jumps2, falls2) ⌝ }
+{
+    if jumps < jumps2 {
+        return true;
+    }
+    if jumps2 < jumps {
+        return false;
+    }
+    falls < falls2
+}
+
+// Whether the first tail is better: heavier, or as heavy and first. The lowest block in which their 'left by jump' sets differ tells which is first.
+fn better(weight: u64, jumped: u64, weight2: u64, jumped2: u64) -> bool
+    ensures { λ r. ⌜ r ≡ next (heavier weight weight2) (heavier weight2 weight) (earlier 64 jumped jumped2) ⌝ }
+{
+    if weight2 < weight {
+        return true;
+    }
+    if weight < weight2 {
+        return false;
+    }
+    words::has(jumped, u64::trailing_zeros(jumped ^ jumped2) as usize)
+}
+
+// The first of the held entries whose key is not before this one.
+fn place_of(row: &[u64], held: usize, jumps: u64, falls: u64) -> usize
+    requires { ⌜ 5 * held ≤ length (now row) ⌝ }
+    ensures { λ r. ⌜ Place (now (row .entry)) held (jumps, falls) r ⌝ }
+{
+    let mut p = 0;
+    while p < held {
+        if !before(row[5 * p], row[5 * p + 1], jumps, falls) {
+            return p;
+        }
+        p += 1;
+    }
+    p
+}
+
+// Whether the key is held at the place.
+fn is_held(row: &[u64], held: usize, p: usize, jumps: u64, falls: u64) -> bool
+    requires { ⌜ 5 * held ≤ length (now row) ⌝ }
+    ensures { λ r. ⌜ r ≡ ltb p held && (eqb (getD (now (row .entry)) (5 * p) 0) jumps && eqb (getD (now (row .entry)) (5 * p + 1) 0) falls) ⌝ }
+{
+    if p < held {
+        return row[5 * p] == jumps && row[5 * p + 1] == falls;
+    }
+    false
+}
+
+// The words from one place to another, five words on.
+fn open_gap(row: &mut [u64], from: usize, to: usize)
+    requires { ⌜ (from ≤ to) × (to + 5 ≤ length (now row)) ⌝ }
+    ensures { λ r. ⌜ Moved (now (row .entry)) (now (row .exit)) from to ⌝ }
+{
+    let mut i = to;
+    while from < i {
+        i -= 1;
+        row[i + 5] = row[i];
+    }
+}
+
+// The five words of an entry.
+fn put_entry(
+    row: &mut [u64],
+    p: usize,
+    jumps: u64,
+    falls: u64,
+    weight: u64,
+    jumped: u64,
+    fallen: u64,
+)
+    requires { ⌜ 5 * suc p ≤ length (now row) ⌝ }
+    ensures { λ r. ⌜ now (row .exit) ≡ entryPut (now (row .entry)) p (entryOf jumps falls weight jumped fallen) ⌝ }
+{
+    row[5 * p] = jumps;
+    row[5 * p + 1] = falls;
+    row[5 * p + 2] = weight;
+    row[5 * p + 3] = jumped;
+    row[5 * p + 4] = fallen;
+}
+
+// The better of this entry and the one at the place.
+fn keep_better(
+    row: &mut [u64],
+    p: usize,
+    jumps: u64,
+    falls: u64,
+    weight: u64,
+    jumped: u64,
+    fallen: u64,
+)
+    requires { ⌜ 5 * suc p ≤ length (now row) ⌝ }
+    ensures { λ r. ⌜ now (row .exit) ≡ cond (betterOf (weight, (jumped, fallen)) (entryAt (now (row .entry)) p .1)) (entryPut (now (row .entry)) p (entryOf jumps falls weight jumped fallen)) (now (row .entry)) ⌝ }
+{
+    if better(weight, jumped, row[5 * p + 2], row[5 * p + 3]) {
+        put_entry(row, p, jumps, falls, weight, jumped, fallen);
+    }
+}
+
+// The entry at the place, those from there on one place further.
+fn squeeze_in(
+    row: &mut [u64],
+    held: usize,
+    p: usize,
+    jumps: u64,
+    falls: u64,
+    weight: u64,
+    jumped: u64,
+    fallen: u64,
+)
+    requires { ⌜ (p ≤ held) × (5 * suc held ≤ length (now row)) ⌝ }
+    ensures { λ r. ⌜ Squeezed (now (row .entry)) (now (row .exit)) p held (entryOf jumps falls weight jumped fallen) ⌝ }
+{
+    open_gap(row, 5 * p, 5 * held);
+    put_entry(row, p, jumps, falls, weight, jumped, fallen);
+}
+
+// One entry more in an ascending row, one for each key, the better one; how many are held then. The 65th key is counted, and not put in.
+fn insert(
+    row: &mut [u64],
+    held: usize,
+    jumps: u64,
+    falls: u64,
+    weight: u64,
+    jumped: u64,
+    fallen: u64,
+) -> usize
+    requires { ⌜ (length (now row) ≡ 320) × (held ≤ 64) ⌝ }
+    ensures { λ r. ⌜ Grown (inserted (entryOf jumps falls weight jumped fallen) (entriesFrom (now (row .entry)) 0 held)) (now (row .entry)) (now (row .exit)) r ⌝ }
+{
+    let p = place_of(row, held, jumps, falls);
+    if is_held(row, held, p, jumps, falls) {
+        keep_better(row, p, jumps, falls, weight, jumped, fallen);
+        return held;
+    }
+    if held < 64 {
+        squeeze_in(row, held, p, jumps, falls, weight, jumped, fallen);
+        return held + 1;
+    }
+    65
+}
