@@ -2,13 +2,15 @@
 // blocks left by jump or go, the blocks left by fall. The row under construction is a local array and is stored only when it is whole.
 ghost use mathlib.Core.Path.{_≡_};
 ghost use mathlib.Core.Bool.{Bool, true, false, cond, _&&_};
-ghost use Prim.Native.Nat.{ℕ, suc, _+_, _*_, _<_, _≤_};
+ghost use Prim.Native.Nat.{ℕ, suc, _+_, _*_, _^_, _<_, _≤_};
 ghost use lib.Dec.{eqb, ltb};
 ghost use lib.ListN.{length, getD};
 ghost use Rattle.laws.specs.Terms.{next, heavier};
 ghost use Rattle.theory.specs.Row.{keyBefore};
 ghost use Rattle.theory.specs.Ties.{earlier};
 ghost use Rattle.routes.specs.Entries.{entryOf, entryAt, entriesFrom, betterOf, inserted, entryPut, Place, Moved, Squeezed, Grown};
+ghost use Rattle.routes.specs.SweepSteps.{sideOf, hitsOf, openedOf};
+ghost use Rattle.routes.specs.SweepRows.{pushed, Ready, leftFrom};
 
 // Whether the first key comes before the second: by the jump set, then by the fall set.
 fn before(jumps: u64, falls: u64, jumps2: u64, falls2: u64) -> bool
@@ -153,4 +155,122 @@ fn insert(
         return held + 1;
     }
     65
+}
+
+// One side of a step in front of tails, which leaves a block by a way: of the jump edges, or of the fall edges, those that it conflicts with, those that the
+// block's effects deny, its own where the block tests, those that stay open; and its block, where it is left by this side's way.
+struct Side {
+    against: u64,
+    denied: u64,
+    own: u64,
+    live: u64,
+    left: u64,
+}
+
+// The word where the test holds, else 0.
+fn when(test: bool, x: u64) -> u64
+    ensures { λ r. ⌜ r ≡ cond test x 0 ⌝ }
+{
+    if test { x } else { 0 }
+}
+
+// A side (1 jump, 2 fall) of the step that leaves block b by the way.
+fn side_of(plan: &[u64], b: usize, way: usize, side: usize) -> Side
+    requires { ⌜ (length (now plan) ≡ 1024) × ((b < 64) × ((way ≤ 2) × (side ≤ 2))) ⌝ }
+    ensures { λ r. ⌜ r ≡ sideOf (now (plan .entry)) b way side ⌝ }
+{
+    let at = 16 * b;
+    Side {
+        against: plan[at + (2 * way + side + 3)],
+        denied: plan[at + (side + 3)],
+        own: when(way == side, plan[at + 12] << b),
+        live: plan[at + (side + 9)] & !plan[at + 3],
+        left: when(way == side, 1 << b),
+    }
+}
+
+// The edges of a tail, and the step's own, that the step conflicts with.
+fn hits(side: Side, edges: u64) -> u64
+    ensures { λ r. ⌜ r ≡ hitsOf side edges ⌝ }
+{
+    (edges & side.against) | ((edges | side.own) & side.denied)
+}
+
+// The edges that are open with the step in front.
+fn opened(side: Side, edges: u64) -> u64
+    ensures { λ r. ⌜ r ≡ openedOf side edges ⌝ }
+{
+    (edges | side.own) & side.live
+}
+
+// Entry e of the table, with the step in front, into the row; how many are held then.
+fn add_tail(
+    jumps: Side,
+    falls: Side,
+    cost: u64,
+    table: &[u64],
+    e: usize,
+    row: &mut [u64],
+    held: usize,
+) -> usize
+    requires { ⌜ (length (now row) ≡ 320) × (held ≤ 64) ⌝ }
+    requires { ⌜ (5 * suc e ≤ length (now table)) × (cost + getD (now table) (5 * e + 2) 0 < 2 ^ 64) ⌝ }
+    ensures { λ r. ⌜ Grown (pushed jumps falls cost (entryAt (now (table .entry)) e) (entriesFrom (now (row .entry)) 0 held)) (now (row .entry)) (now (row .exit)) r ⌝ }
+{
+    let jump_edges = table[5 * e];
+    let fall_edges = table[5 * e + 1];
+    if hits(jumps, jump_edges) | hits(falls, fall_edges) != 0 {
+        return held;
+    }
+    insert(
+        row,
+        held,
+        opened(jumps, jump_edges),
+        opened(falls, fall_edges),
+        cost + table[5 * e + 2],
+        table[5 * e + 3] | jumps.left,
+        table[5 * e + 4] | falls.left,
+    )
+}
+
+// How many entries row t has; a row that there is none of has none.
+fn length_of(lengths: &[u64], t: usize) -> usize
+    requires { ⌜ length (now lengths) ≡ 64 ⌝ }
+    ensures { λ r. ⌜ r ≡ getD (now (lengths .entry)) t 0 ⌝ }
+{
+    if t < 64 { lengths[t] as usize } else { 0 }
+}
+
+// The tails of b into its row, by each way the entries of the target's row, until the 65th set appears; how many are held then.
+fn build(
+    plan: &[u64],
+    b: usize,
+    table: &[u64],
+    lengths: &[u64],
+    row: &mut [u64],
+    begun: usize,
+) -> usize
+    requires { ⌜ Ready (now plan) (now table) (now lengths) b ⌝ }
+    requires { ⌜ (length (now row) ≡ 320) × (begun ≤ 64) ⌝ }
+    ensures { λ r. ⌜ Grown (leftFrom (now (plan .entry)) (now (table .entry)) (now (lengths .entry)) b 1 (entriesFrom (now (row .entry)) 0 begun)) (now (row .entry)) (now (row .exit)) r ⌝ }
+{
+    let cost = plan[16 * b + 2];
+    let mut held = begun;
+    let mut way = 1;
+    'ways: while way < 3 {
+        let jumps = side_of(plan, b, way, 1);
+        let falls = side_of(plan, b, way, 2);
+        let target = plan[16 * b + (way - 1)] as usize;
+        let tails = length_of(lengths, target);
+        let mut i = 0;
+        while i < tails {
+            held = add_tail(jumps, falls, cost, table, 64 * target + i, row, held);
+            if held > 64 {
+                break 'ways;
+            }
+            i += 1;
+        }
+        way += 1;
+    }
+    held
 }
