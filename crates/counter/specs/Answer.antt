@@ -6,7 +6,6 @@ use lib.IntN.{ℤ}
 use Rattle.form.specs.Counter.{Count}
 use Rattle.counter.specs.declared.Counted.{Counted}
 use Rattle.counter.specs.declared.Counted.the-variants.{Iterations, Refused}
-use Rattle.counter.specs.declared.CounterAnswer.{CounterAnswer}
 
 -- the refusal's number and place, and the loop count; what an answer does not have is zero
 pub record Values : Type 0 where
@@ -24,10 +23,6 @@ refusal number place = record { number = number; place = place; iterations = 0 }
 abbrev pub said : Counted → Values
 said (Iterations k) = count k
 said (Refused number place) = refusal number place
-
--- what the answer to C says
-abbrev pub exported : CounterAnswer → Values
-exported answer = record { number = answer .number; place = answer .place; iterations = answer .iterations }
 
 -- a relation above 5 is refused with 15 at place 0; else the answer is the count, or 20 at place 0 where no count exists
 pub data Owed (initial step : ℤ) (relation : ℕ) (limit : ℤ) (answer : Values) : Type 0 where

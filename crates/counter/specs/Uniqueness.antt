@@ -13,8 +13,7 @@ use Rattle.relations.specs.Steps.{Found}
 use Rattle.relations.specs.Loops.{countOf, count-once, count-found, count-few}
 use Rattle.counter.specs.declared.Counted.{Counted}
 use Rattle.counter.specs.declared.Counted.the-variants.{Iterations, Refused}
-use Rattle.counter.specs.declared.CounterAnswer.{CounterAnswer}
-use Rattle.counter.specs.Answer.{Values, count, refusal, said, exported, Owed, no-relation, no-count, counted}
+use Rattle.counter.specs.Answer.{Values, count, refusal, said, Owed, no-relation, no-count, counted}
 
 -- the answer that the closed form gives: a case of document 01 is decided by computing it
 abbrev pub answerOf : ℕ → Counted
@@ -77,12 +76,6 @@ module _ (initial step : ℤ) (relation : ℕ) (limit : ℤ) where
   pub decided : SFits w32 initial → relation ≤ 5 → (a : Counted) → Owed initial step relation limit (said a) → a ≡ answerOf (countOf initial step relation limit)
   decided fits l a o =
       one-count a (answerOf (countOf initial step relation limit)) o (owes l (countOf initial step relation limit) (count-found initial fits relation limit step))
-
-  -- ---- `counter_count`
-  pub one-export : (a b : CounterAnswer) → Owed initial step relation limit (exported a) → Owed initial step relation limit (exported b) → a ≡ b
-  one-export a b o p =
-      let e = owed-once (exported a) (exported b) o p in
-      λ i. record { number = e i .number; place = e i .place; iterations = e i .iterations }
 
 -- ---- `meets`
 pub one-meets : (relation : ℕ) (value constant : ℤ) (a b : Bool) → a ≡ meets relation value constant → b ≡ meets relation value constant → a ≡ b

@@ -9,20 +9,12 @@ ghost use Rattle.form.specs.Relation.{meets};
 ghost use Rattle.relations.specs.Relations.{mirrored};
 ghost use Rattle.relations.specs.Steps.{later, first, within};
 ghost use Rattle.relations.specs.Loops.{countOf};
-ghost use Rattle.counter.specs.Answer.{Owed, said, exported};
+ghost use Rattle.counter.specs.Answer.{Owed, said};
 
 // What the counter answers: the count, or the refusal's number and place.
 pub enum Counted {
     Iterations(u64),
     Refused { number: u32, place: usize },
-}
-
-// The same for C: number 0 with the count, or the refusal's number and place.
-#[repr(C)]
-pub struct CounterAnswer {
-    pub number: u64,
-    pub place: u64,
-    pub iterations: u64,
 }
 
 fn wide(x: i32) -> i64
@@ -224,23 +216,4 @@ pub fn count_of(counter: form::Counter) -> Counted
         counter.relation,
         counter.limit,
     )
-}
-
-// The count of a loop, asked from C.
-#[no_mangle]
-pub extern "C" fn counter_count(initial: i32, step: i32, relation: u8, limit: i32) -> CounterAnswer
-    ensures { λ r. ⌜ Owed initial step relation limit (exported r) ⌝ }
-{
-    match count(initial, step, relation, limit) {
-        Counted::Iterations(k) => CounterAnswer {
-            number: 0,
-            place: 0,
-            iterations: k,
-        },
-        Counted::Refused { number, place } => CounterAnswer {
-            number: number as u64,
-            place: place as u64,
-            iterations: 0,
-        },
-    }
 }

@@ -7,6 +7,8 @@ use Rattle.form.specs.declared.Written.{Written}
 use Rattle.form.specs.declared.Written.the-variants.{Bytes, Unwritten}
 use Rattle.form.specs.Form.{when, judge, bodyOf, lay}
 use Rattle.form.specs.Answer.{accepted, numberOf, placeOf, written, heldAfter}
+use Rattle.counter.specs.Answer.{Values}
+use Rattle.desk.specs.declared.CountAnswer.{CountAnswer}
 use Rattle.desk.specs.declared.FormAnswer.{FormAnswer}
 
 abbrev pub formAnswer : ℕ → ℕ → FormAnswer
@@ -27,3 +29,7 @@ rewriteAnswer form room = when (accepted (judge form)) (writtenAnswer (written (
 
 abbrev pub rewriteHeld : List ℕ → List ℕ → List ℕ
 rewriteHeld form out = when (accepted (judge form)) (heldAfter (written (bodyOf form) (length out)) (lay (bodyOf form)) out) out
+
+-- The counter's answer, as the counter's own definition has it
+abbrev pub countValues : CountAnswer → Values
+countValues answer = record { number = answer .number; place = answer .place; iterations = answer .iterations }

@@ -3,7 +3,9 @@
 ghost use mathlib.Core.Path.{_≡_};
 ghost use lib.ListN.{length};
 ghost use Rattle.form.specs.Form.{judge};
-ghost use Rattle.desk.specs.Answer.{formAnswer, verdictAnswer, writtenAnswer, rewriteAnswer, rewriteHeld};
+ghost use Rattle.counter.specs.Answer.{Owed};
+ghost use Rattle.desk.specs.Answer.{countValues, formAnswer, verdictAnswer, writtenAnswer, rewriteAnswer, rewriteHeld};
+use counter::Counted;
 use form::Verdict;
 use form::Written;
 
@@ -12,6 +14,14 @@ use form::Written;
 pub struct FormAnswer {
     pub number: u64,
     pub place: u64,
+}
+
+// The same with a loop count; what an answer does not have is zero.
+#[repr(C)]
+pub struct CountAnswer {
+    pub number: u64,
+    pub place: u64,
+    pub iterations: u64,
 }
 
 fn answer(number: u64, place: u64) -> FormAnswer
@@ -35,6 +45,25 @@ fn of_written(written: Written) -> FormAnswer
     match written {
         Written::Bytes(count) => answer(0, count as u64),
         Written::Unwritten { number, place } => answer(number as u64, place as u64),
+    }
+}
+
+// The count of a loop, asked with four numbers: number 0 and the count, or 15 or 20 at place 0.
+#[no_mangle]
+pub extern "C" fn somniaret_count(initial: i32, step: i32, relation: u8, limit: i32) -> CountAnswer
+    ensures { λ r. ⌜ Owed initial step relation limit (countValues r) ⌝ }
+{
+    match counter::count(initial, step, relation, limit) {
+        Counted::Iterations(k) => CountAnswer {
+            number: 0,
+            place: 0,
+            iterations: k,
+        },
+        Counted::Refused { number, place } => CountAnswer {
+            number: number as u64,
+            place: place as u64,
+            iterations: 0,
+        },
     }
 }
 

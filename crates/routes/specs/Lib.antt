@@ -1,6 +1,14 @@
 -- The definitions and laws of the upper layer.
 pub mod Plan
--- The sweep: rows as flat words, a step in front of a tail by the plan.
+pub mod RouteWords
+pub mod Owed
+pub mod WalkAnswer
+pub mod WalkTerms
+pub mod Accepted
+pub mod WalkLaws
+pub mod WalkEnds
+pub mod WalkPromise
+-- The sweep: rows as flat words, a step in front of a tail by the plan, a row built.
 pub mod Entries
 pub mod SweepSteps
 pub mod SweepRows

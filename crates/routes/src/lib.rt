@@ -1,2 +1,4 @@
 // The upper layer: the full walk and the sweep. It calls form, counter and conflict and knows them by their contracts alone.
+mod route;
 pub mod sweep;
+pub mod walk;

@@ -7,15 +7,8 @@ use Rattle.form.specs.declared.Body.{Body}
 use Rattle.form.specs.declared.Verdict.{Verdict}
 use Rattle.form.specs.Answer.{accepted, reading}
 use Rattle.form.specs.Form.{when, judge, bodyOf, zeroBody}
-use borrow.Author.Needs.{needs}
 use Rattle.form.proofs.read.Statement.{statement}
 use Rattle.form.proofs.read.Tie as tie
-use Rattle.form.proofs.read.Reads as reads
-use Rattle.form.proofs.read.Lts as lts
-use Rattle.form.proofs.accepts.Reads as accepts-reads
-use Rattle.form.proofs.body_of.Reads as body-of-reads
-use Rattle.form.proofs.judge.Reads as judge-reads
-use Rattle.form.proofs.zero_body.Reads as zero-body-reads
 
 -- a verdict and the body that goes with it are the reading
 reading-is :
@@ -24,28 +17,11 @@ reading-is :
 reading-is s v t body p q r =
     λ i. record { verdict = p i; body = (r ∙ ap (λ (b : Bool). when b (bodyOf s) zeroBody) (q ∙ ap accepted p)) i }
 
-judge-requires : tie.Need-judge-requires
-judge-requires c κs = search needs
-
--- src/lib.rt:527:8
-accepts-requires : tie.Need-accepts-requires
-accepts-requires c κs = search needs
-
--- src/lib.rt:528:13
-body-of-requires : tie.Need-body-of-requires
-body-of-requires c κs = search needs
-
--- src/lib.rt:529:9
 returns : tie.Need-returns
 returns c =
     let tested = c .before .before in
     reading-is _ _ true _ (tested .before .judge .ensures) (sym (c .before .if1 .taken) ∙ tested .accepts .ensures) (c .body-of .ensures)
 
--- src/lib.rt:531:9
-zero-body-requires : tie.Need-zero-body-requires
-zero-body-requires c κs = search needs
-
--- src/lib.rt:523:1
 returns-2 : tie.Need-returns-2
 returns-2 c =
     let tested = c .before .before in
@@ -54,10 +30,4 @@ returns-2 c =
 pub read-spec : {M : Type 1} → statement M
 read-spec =
     tie.close
-    (tie.spec
-    judge-requires
-    accepts-requires
-    body-of-requires
-    returns
-    zero-body-requires
-    returns-2)
+    (tie.spec (λ _ _. tt) (λ _ _. tt) (λ _ _. tt) returns (λ _ _. tt) returns-2)

@@ -12,18 +12,6 @@ use Rattle.laws.specs.Complement.{minus-one-less}
 use Rattle.form.proofs.signed_of.Statement.{statement}
 use Rattle.form.proofs.signed_of.Tie as tie
 
-cast-result : tie.Need-cast-result
-cast-result c = search needs
-
-returns : tie.Need-returns
-returns c = search needs
-
-sub-below : tie.Need-sub-below
-sub-below c = search needs
-
-cast-below : tie.Need-cast-below
-cast-below c = search needs
-
 abbrev below : tie.Else1 → ℕ
 below c = 4294967295 - c .before .args .bits
 
@@ -42,4 +30,4 @@ returns-2 c =
     rw (turned c, toZ-ofZ (fits c), le-ltb _ _ (c .if1 .left)) (ap negsuc same)
 
 pub signed-of-spec : {M : Type 1} → statement M
-signed-of-spec = tie.close (tie.spec cast-result returns sub-below cast-below sub-result returns-2)
+signed-of-spec = tie.close (tie.spec (λ c. search needs) (λ c. search needs) (λ c. search needs) (λ c. search needs) sub-result returns-2)

@@ -9,28 +9,10 @@ use Rattle.form.specs.Writing.{counts-refused, held-refused, form-refuse
 use borrow.Author.Needs.{needs}
 use Rattle.form.proofs.write.Statement.{statement}
 use Rattle.form.proofs.write.Tie as tie
-use Rattle.form.proofs.write.Reads as reads
-use Rattle.form.proofs.write.Lts as lts
-use Rattle.form.proofs.accepts.Reads as accepts-reads
-use Rattle.form.proofs.as_judged.Reads as as-judged-reads
-use Rattle.form.proofs.copy_in.Reads as copy-in-reads
-use Rattle.form.proofs.counts_fit.Reads as counts-fit-reads
-use Rattle.form.proofs.judge.Reads as judge-reads
-use Rattle.form.proofs.lay.Reads as lay-reads
 
--- src/lib.rt:716:9
-counts-fit-requires : tie.Need-counts-fit-requires
-counts-fit-requires c κs = search needs
-
--- src/lib.rt:717:9
 returns : tie.Need-returns
 returns c = (counts-refused _ _ (sym (c .before .counts-fit .ensures) ∙ not-true _ (c .if1 .taken)), refl)
 
--- src/lib.rt:723:17
-slice-aggregate-lay : tie.Need-slice-aggregate-lay
-slice-aggregate-lay c = search needs
-
--- src/lib.rt:723:9
 lay-requires : tie.Need-lay-requires
 lay-requires c κs = (sym (c .before .before .counts-fit .ensures) ∙ not-false _ (c .before .if1 .left), omega arith)
 
@@ -38,24 +20,8 @@ lay-requires c κs = (sym (c .before .before .counts-fit .ensures) ∙ not-false
 all-laid : (c : tie.After-lay) → c .lay .result ≡ length (take (c .lay .result) (c .lay .last .0))
 all-laid c = c .lay .ensures .0 ∙ ap length (sym (c .lay .ensures .1 .1))
 
-array-share-prefix-buf : tie.Need-array-share-prefix-buf
-array-share-prefix-buf c = search needs
-
--- src/lib.rt:724:25
 slice-aggregate-judge : tie.Need-slice-aggregate-judge
 slice-aggregate-judge c = all-laid (c .before .before)
-
--- src/lib.rt:724:9
-judge-requires : tie.Need-judge-requires
-judge-requires c κs = search needs
-
--- src/lib.rt:725:9
-accepts-requires : tie.Need-accepts-requires
-accepts-requires c κs = search needs
-
--- src/lib.rt:726:9
-as-judged-requires : tie.Need-as-judged-requires
-as-judged-requires c κs = search needs
 
 -- the counts fit where the body is laid out, and the verdict is on its bytes
 fit : (c : tie.After-lay) → countsFit (c .before .before .before .before .before .args .body) ≡ true
@@ -66,7 +32,6 @@ fit c =
 on-form : (c : tie.After-judge) → c .judge .result ≡ judge (lay (c .before .before .before .before .before .before .before .before .args .body))
 on-form c = c .judge .ensures ∙ ap judge (c .before .before .before .lay .ensures .1 .1)
 
--- src/lib.rt:726:9
 returns-2 : tie.Need-returns-2
 returns-2 c =
     let tested = c .before .before in
@@ -77,7 +42,6 @@ returns-2 c =
       rw (c .as-judged .ensures) (held-refused (judged .judge .result) (lay (start .args .body)) (start .args .out .now) refused),
     )
 
--- src/lib.rt:729:9
 returns-3 : tie.Need-returns-3
 returns-3 c =
     let tested = c .before .before in
@@ -89,23 +53,12 @@ returns-3 c =
       refl,
     )
 
--- src/lib.rt:734:21
-array-share-prefix-buf-2 : tie.Need-array-share-prefix-buf-2
-array-share-prefix-buf-2 c = search needs
-
--- src/lib.rt:734:21
 slice-aggregate-copy-in : tie.Need-slice-aggregate-copy-in
 slice-aggregate-copy-in c = all-laid (c .before .before .before .before .before .before .before .before)
 
--- src/lib.rt:734:5
 copy-in-requires : tie.Need-copy-in-requires
 copy-in-requires c κs = omega (arith, all-laid (c .before .before .before .before .before .before .before .before))
 
--- src/lib.rt:713:1
-same-length : tie.Need-same-length
-same-length c = search needs
-
--- src/lib.rt:713:1
 returns-4 : tie.Need-returns-4
 returns-4 c =
     let copied = c .before .before in
@@ -122,20 +75,4 @@ returns-4 c =
 pub write-spec : {M : Type 1} → statement M
 write-spec =
     tie.close
-    (tie.spec
-    counts-fit-requires
-    returns
-    slice-aggregate-lay
-    lay-requires
-    array-share-prefix-buf
-    slice-aggregate-judge
-    judge-requires
-    accepts-requires
-    as-judged-requires
-    returns-2
-    returns-3
-    array-share-prefix-buf-2
-    slice-aggregate-copy-in
-    copy-in-requires
-    same-length
-    returns-4)
+    (tie.spec (λ _ _. tt) returns (λ c. search needs) lay-requires (λ c. search needs) slice-aggregate-judge (λ _ _. tt) (λ _ _. tt) (λ _ _. tt) returns-2 returns-3 (λ c. search needs) slice-aggregate-copy-in copy-in-requires (λ c. search needs) returns-4)

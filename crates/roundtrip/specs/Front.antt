@@ -1,0 +1,195 @@
+-- Judging sees no more than the front of an input: a longest form has 3,665 bytes (a counter, 64 blocks, 256 effects), and a longer input is refused at a
+-- record that starts there or before, for what stands in its first 17 bytes. So 3,682 bytes decide. Rests on Form, Answer, Records and Acceptance.
+use mathlib.Core.Bool.{Bool, true, false, not, _||_}
+use mathlib.Core.List.{List}
+use mathlib.Core.Path.{_≡_, refl, ap, sym, _∙_}
+use Prim.Native.Nat.{ℕ, zero, suc, _+_, _-_, _*_, _<_, _≤_}
+use native.Mathlib.Nat.{add-zero}
+use native.Mathlib.Omega.{arith}
+use borrow.Author.Tests.{ltb-true, ltb-false, le-ltb, eqb-true, eqb-false}
+use lib.Dec.{ltb, eqb, lit<, lit≤}
+use lib.ListN.{length, take}
+use lib.Seq.{take-all, length-take-le, getD-take}
+use Rattle.laws.specs.Tests.{split}
+use Rattle.form.specs.declared.Verdict.{Verdict}
+use Rattle.form.specs.declared.Verdict.the-variants.{Accepted, Refused}
+use Rattle.form.specs.Form.{when, byteAt, number2, number4, lengthAt, kindAt, isBlock, isEffect, oneIf, recordLength, recordsFrom, badField, badTarget, outOfPlace, overLimit, payloadFault, recordFault, judgeRecords, judge}
+use Rattle.form.specs.Answer.{reading}
+use Rattle.form.specs.Records.{next, next-above, rest-leave, rest-pass}
+use Rattle.roundtrip.specs.Acceptance.{Passed, passed, RecordAt, counter, block, effect, record-at, counter-first, Passing, finish, accepted-form}
+
+-- where a record may start: after the counter, b blocks and e effects, all within the limits
+pub record Within (at b e : ℕ) : Type 0 where
+  pub reach : at ≤ 17 + 17 * b + 10 * e
+  pub blocks : b ≤ 64
+  pub effects : e ≤ 256
+
+origin : Within 0 0 0
+origin = record { reach = lit≤ tt; blocks = lit≤ tt; effects = lit≤ tt }
+
+start : Within 17 0 0
+start = record { reach = lit≤ tt; blocks = lit≤ tt; effects = lit≤ tt }
+
+block-more : {at b e : ℕ} → Within at b e → b < 64 → Within (at + 17) (b + 1) e
+block-more w h = record { reach = omega (arith, w .reach); blocks = omega arith; effects = w .effects }
+
+effect-more : {at b e : ℕ} → Within at b e → e < 256 → Within (at + 10) b (e + 1)
+effect-more w h = record { reach = omega (arith, w .reach); blocks = w .blocks; effects = omega arith }
+
+near : {at b e : ℕ} → Within at b e → at ≤ 3665
+near w = omega (arith, w .reach, w .blocks, w .effects)
+
+-- ---- an accepted form
+
+module _ (s : List ℕ) where
+  passing-ends : {at b e : ℕ} {records : List ℕ} → Passing s at b e records → Within at b e → length s ≤ 3665
+  passing-ends (finish l ended) w = omega (arith, near w)
+  passing-ends (block k p) w = passing-ends p (block-more w (k .within))
+  passing-ends (effect f p) w = passing-ends p (effect-more w (f .within))
+
+  -- a counter, 64 blocks and 256 effects at most
+  pub front-body : judge s ≡ Accepted → length s ≤ 3665
+  front-body a = passing-ends (accepted-form s a .passing) start
+
+  pub front-all : (n : ℕ) → 3665 ≤ n → judge s ≡ Accepted → take n s ≡ s
+  front-all n h a = take-all n s (omega (arith, front-body a))
+
+-- ---- one record
+
+length-most : (kind : ℕ) → recordLength kind ≤ 17
+unfolding recordLength
+length-most kind = cases (eqb kind 3) (eqb kind 1 || eqb kind 2)
+  where
+    cases : (a b : Bool) → when a 10 (when b 17 4) ≤ 17
+    cases true b = lit≤ tt
+    cases false true = lit≤ tt
+    cases false false = lit≤ tt
+
+-- the length beyond the input counts only where it is the kind's own
+sizes :
+    (sized beyond beyond′ : Bool) (rest : ℕ) → (sized ≡ true → beyond ≡ beyond′)
+    → when (not sized) 11 (when beyond 10 rest) ≡ when (not sized) 11 (when beyond′ 10 rest)
+sizes true beyond beyond′ rest h = λ i. when (h refl i) 10 rest
+sizes false beyond beyond′ rest h = refl
+
+-- after a record without a fault the next one starts within the limits
+further : (s : List ℕ) (at b e : ℕ) → RecordAt s at b e → Within at b e → Within (next s at) (b + oneIf (isBlock s at)) (e + oneIf (isEffect s at))
+unfolding recordLength
+further s at b e (counter c) w =
+    rw (c .kind, add-zero b, add-zero e) (record { reach = omega (arith, c .first); blocks = w .blocks; effects = w .effects })
+further s at b e (block k) w = rw (k .kind, add-zero e) (block-more w (k .within))
+further s at b e (effect f) w = rw (f .kind, add-zero b) (effect-more w (f .within))
+
+-- two inputs of at least 3,682 bytes, of which those are the same
+module _ (s t : List ℕ) (long : 3682 ≤ length s) (long′ : 3682 ≤ length t) (same : (i : ℕ) → i < 3682 → byteAt s i ≡ byteAt t i) where
+  same2 : (i : ℕ) → i + 2 ≤ 3682 → number2 s i ≡ number2 t i
+  same2 i h = λ j. same i (omega arith) j + 256 * same (i + 1) (omega arith) j
+
+  same4 : (i : ℕ) → i + 4 ≤ 3682 → number4 s i ≡ number4 t i
+  same4 i h = λ j. same2 i (omega arith) j + 65536 * same2 (i + 2) (omega arith) j
+
+  -- judged alike from a place on
+  abbrev Alike : ℕ → ℕ → ℕ → Type 0
+  Alike at b e = judgeRecords s (recordsFrom s at) b e ≡ judgeRecords t (recordsFrom t at) b e
+
+  module _ (at : ℕ) (h : at ≤ 3665) where
+    kind : kindAt s at ≡ kindAt t at
+    kind = same2 (at + 2) (omega arith)
+
+    byte : (k : ℕ) → k < 17 → byteAt s (at + k) ≡ byteAt t (at + k)
+    byte k l = same (at + k) (omega arith)
+
+    same-place : (b : ℕ) → outOfPlace s at b ≡ outOfPlace t at b
+    unfolding outOfPlace
+    same-place b = rw kind
+
+    same-limit : (b e : ℕ) → overLimit s at b e ≡ overLimit t at b e
+    unfolding overLimit
+    same-limit b e = rw kind
+
+    same-target : (b : ℕ) → badTarget s at b ≡ badTarget t at b
+    unfolding badTarget
+    same-target b = rw (kind, byte 8 (lit< tt), byte 9 (lit< tt), byte 10 (lit< tt))
+
+    same-field : badField s at ≡ badField t at
+    unfolding badField
+    same-field =
+        rw (
+          kind,
+          same4 (at + 4) (omega arith),
+          byte 4 (lit< tt),
+          byte 5 (lit< tt),
+          same4 (at + 6) (omega arith),
+          byte 8 (lit< tt),
+          byte 9 (lit< tt),
+          byte 10 (lit< tt),
+          byte 11 (lit< tt),
+          byte 12 (lit< tt),
+          same4 (at + 13) (omega arith),
+        )
+
+    same-payload : (b e : ℕ) → payloadFault s at b e ≡ payloadFault t at b e
+    unfolding payloadFault
+    same-payload b e = rw (same-place b, same-limit b e, same-target b, same-field)
+
+    -- a head, and a record of its kind's own length, are within both
+    fits : (m : ℕ) → m ≤ 17 → ltb (length s - at) m ≡ ltb (length t - at) m
+    fits m l = le-ltb (length s - at) m (omega arith) ∙ sym (le-ltb (length t - at) m (omega arith))
+
+    own : eqb (lengthAt t at) (recordLength (kindAt t at)) ≡ true → lengthAt t at ≤ 17
+    own e = omega (arith, eqb-true (lengthAt t at) _ e, length-most (kindAt t at))
+
+    same-fault : (b e : ℕ) → recordFault s at b e ≡ recordFault t at b e
+    unfolding recordFault
+    same-fault b e =
+        let size = sizes (eqb (lengthAt t at) (recordLength (kindAt t at))) (ltb (length s - at) (lengthAt t at)) _ (payloadFault t at b e) (λ q. fits _ (own q)) in
+        rw (same2 at (omega arith), kind, same-payload b e, fits 4 (lit≤ tt), size)
+
+    -- so both are judged alike from it on, if they are after it where it has no fault
+    turn :
+        (b e : ℕ)
+        → (Passed s at b e → Alike (next s at) (b + oneIf (isBlock s at)) (e + oneIf (isEffect s at)))
+        → Alike at b e
+    turn b e after =
+        split (eqb (recordFault s at b e) 0)
+        (λ q.
+        let z = eqb-true _ _ q in
+        sym (rest-pass s at (omega arith) b e _ z refl)
+        ∙ (after (passed s at b e z)
+        ∙ ((λ i. judgeRecords t (recordsFrom t (at + recordLength (kind i))) (b + oneIf (eqb (kind i) 2)) (e + oneIf (eqb (kind i) 3)))
+        ∙ rest-pass t at (omega arith) b e _ (sym (same-fault b e) ∙ z) refl)))
+        (λ q.
+        let f = eqb-false _ _ q in
+        sym (rest-leave s at (omega arith) b e _ f refl)
+        ∙ (ap (λ (n : ℕ). Refused n at) (same-fault b e)
+        ∙ rest-leave t at (omega arith) b e _ (λ z. f (same-fault b e ∙ z)) refl))
+
+  -- record by record: each that is reached starts at place 3,665 or before, so the end is never met
+  alike : (most at b e : ℕ) → 3682 ≤ at + most → 0 < at → Within at b e → Alike at b e
+  alike zero at b e m later w = absurd (omega (arith, near w))
+  alike (suc most) at b e m later w =
+      turn at (near w) b e
+      (λ p. alike most (next s at) _ _ (omega (arith, next-above s at)) (omega (arith, next-above s at)) (further s at b e (record-at s at b e (omega (arith, near w)) p later) w))
+
+  judge-alike : judge s ≡ judge t
+  unfolding judge
+  judge-alike =
+      turn 0 (lit≤ tt) 0 0
+      (λ p. alike 3682 (next s 0) _ _ (omega arith) (next-above s 0) (further s 0 0 0 (counter (counter-first s (omega arith) p)) origin))
+
+-- ---- the front decides
+
+module _ (n : ℕ) (s : List ℕ) (h : 3682 ≤ n) where
+  -- an input is its front, or is longer
+  either : {C : Type 0} → (take n s ≡ s → C) → (n < length s → C) → C
+  either f g = split (ltb n (length s)) (λ q. g (ltb-true _ _ q)) (λ q. f (take-all n s (ltb-false _ _ q)))
+
+  pub front : judge (take n s) ≡ judge s
+  front = either (ap judge) (λ l. judge-alike (take n s) s (rw (length-take-le n s (omega arith)) h) (omega arith) (λ i b. getD-take n s i 0 (omega arith)))
+
+  pub front-reading : reading (take n s) ≡ reading s
+  front-reading = either (ap reading) (λ l. refuses l (judge s) refl)
+    where
+      refuses : n < length s → (v : Verdict) → judge s ≡ v → reading (take n s) ≡ reading s
+      refuses l Accepted e = absurd (omega (arith, front-body s e))
+      refuses l (Refused number place) e = rw (front, e)

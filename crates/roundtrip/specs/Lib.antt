@@ -1,0 +1,19 @@
+-- What the reader and the writer of crate form owe together. No definition here says what a call answers; those are form's Form and Answer.
+--   Sound      what the layers above may count on in the body of an accepted form
+--   Trips      what is read writes back, what is written reads back, over any answers that meet the promises
+--   Example    the trainer's body of document 01 goes through
+--   Front      the first 3,682 bytes of any input decide how it is judged and read; an accepted form has at most 3,665
+--   Unique     one answer and one content of the lent bytes for each call; bodies that are the same up to their counts
+-- The rest is their proof: numbers and bytes (Digits), filled arrays (Filled), acceptance record by record (Acceptance), bytes laid out record by record (Laid),
+-- and the two trips over bytes and bodies (WriteBack, ReadBack).
+pub mod Digits
+pub mod Filled
+pub mod Acceptance
+pub mod Laid
+pub mod Sound
+pub mod WriteBack
+pub mod Unique
+pub mod Front
+pub mod ReadBack
+pub mod Trips
+pub mod Example
