@@ -12,3 +12,6 @@ pub mod WalkPromise
 pub mod Entries
 pub mod SweepSteps
 pub mod SweepRows
+pub mod SweepTurn
+pub mod SweepTerms
+pub mod SweepTable
