@@ -15,3 +15,4 @@ pub mod SweepRows
 pub mod SweepTurn
 pub mod SweepTerms
 pub mod SweepTable
+pub mod SweepDown

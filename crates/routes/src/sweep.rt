@@ -5,12 +5,15 @@ ghost use mathlib.Core.Bool.{Bool, true, false, cond, _&&_};
 ghost use Prim.Native.Nat.{ℕ, suc, _+_, _*_, _^_, _<_, _≤_};
 ghost use lib.Dec.{eqb, ltb};
 ghost use lib.ListN.{length, getD};
+ghost use lib.Seq.{paste};
 ghost use Rattle.laws.specs.Terms.{next, heavier};
 ghost use Rattle.theory.specs.Row.{keyBefore};
 ghost use Rattle.theory.specs.Ties.{earlier};
 ghost use Rattle.routes.specs.Entries.{entryOf, entryAt, entriesFrom, betterOf, inserted, entryPut, Place, Moved, Squeezed, Grown};
 ghost use Rattle.routes.specs.SweepSteps.{sideOf, hitsOf, openedOf};
 ghost use Rattle.routes.specs.SweepRows.{pushed, Ready, leftFrom};
+ghost use Rattle.routes.specs.SweepTurn.{begunWith};
+ghost use Rattle.routes.specs.SweepDown.{zeroRow, Holds, Turned};
 
 // Whether the first key comes before the second: by the jump set, then by the fall set.
 fn before(jumps: u64, falls: u64, jumps2: u64, falls2: u64) -> bool
@@ -273,4 +276,44 @@ fn build(
         way += 1;
     }
     held
+}
+
+// The row begins empty, but for the last block's, which has its own entry: no edge, its cost and no block that is left. How many are held.
+fn begin(plan: &[u64], b: usize, count: usize, row: &mut [u64]) -> usize
+    requires { ⌜ (length (now plan) ≡ 1024) × ((b < 64) × (now row ≡ zeroRow)) ⌝ }
+    ensures { λ r. ⌜ Holds (begunWith (now (plan .entry)) count b) (now (row .exit)) r ⌝ }
+{
+    if b + 1 == count {
+        row[2] = plan[16 * b + 2];
+        return 1;
+    }
+    0
+}
+
+// The row's words into the table from row b on.
+fn store(table: &mut [u64], b: usize, row: &[u64]) -> usize
+    requires { ⌜ (320 * suc b ≤ length (now table)) × (length (now row) ≡ 320) ⌝ }
+    ensures { λ r. ⌜ now (table .exit) ≡ paste (now (table .entry)) (320 * b) (now (row .entry)) 320 ⌝ }
+{
+    let mut i = 0;
+    while i < 320 {
+        table[320 * b + i] = row[i];
+        i += 1;
+    }
+    i
+}
+
+// Row b: built beside the table, and stored with its length when it is whole. How many entries it has, or 65.
+fn sweep_block(plan: &[u64], count: usize, b: usize, table: &mut [u64], lengths: &mut [u64]) -> usize
+    requires { ⌜ Ready (now plan) (now table) (now lengths) b × (320 * suc b ≤ length (now table)) ⌝ }
+    ensures { λ r. ⌜ Turned (leftFrom (now (plan .entry)) (now (table .entry)) (now (lengths .entry)) b 1 (begunWith (now (plan .entry)) count b)) (now (table .entry)) (now (table .exit)) (now (lengths .entry)) (now (lengths .exit)) b r ⌝ }
+{
+    let mut row = [0; 320];
+    let begun = begin(plan, b, count, &mut row);
+    let length = build(plan, b, table, lengths, &mut row, begun);
+    if length < 65 {
+        store(table, b, &row);
+        lengths[b] = length as u64;
+    }
+    length
 }
