@@ -16,3 +16,4 @@ pub mod SweepTurn
 pub mod SweepTerms
 pub mod SweepTable
 pub mod SweepDown
+pub mod SweepDrive

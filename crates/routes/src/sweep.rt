@@ -2,7 +2,7 @@
 // blocks left by jump or go, the blocks left by fall. The row under construction is a local array and is stored only when it is whole.
 ghost use mathlib.Core.Path.{_≡_};
 ghost use mathlib.Core.Bool.{Bool, true, false, cond, _&&_};
-ghost use Prim.Native.Nat.{ℕ, suc, _+_, _*_, _^_, _<_, _≤_};
+ghost use Prim.Native.Nat.{ℕ, suc, max, _+_, _*_, _^_, _<_, _≤_};
 ghost use lib.Dec.{eqb, ltb};
 ghost use lib.ListN.{length, getD};
 ghost use lib.Seq.{paste};
@@ -14,6 +14,11 @@ ghost use Rattle.routes.specs.SweepSteps.{sideOf, hitsOf, openedOf};
 ghost use Rattle.routes.specs.SweepRows.{pushed, Ready, leftFrom};
 ghost use Rattle.routes.specs.SweepTurn.{begunWith};
 ghost use Rattle.routes.specs.SweepDown.{zeroRow, Holds, Turned};
+ghost use Rattle.routes.specs.SweepDrive.{SweptAs};
+ghost use Rattle.routes.specs.WalkTerms.{PlanOf};
+ghost use Rattle.routes.specs.Plan.{Planned};
+ghost use Rattle.form.specs.declared.Body.{Body};
+ghost use Rattle.form.specs.Conflict.{Sound};
 
 // Whether the first key comes before the second: by the jump set, then by the fall set.
 fn before(jumps: u64, falls: u64, jumps2: u64, falls2: u64) -> bool
@@ -304,7 +309,13 @@ fn store(table: &mut [u64], b: usize, row: &[u64]) -> usize
 }
 
 // Row b: built beside the table, and stored with its length when it is whole. How many entries it has, or 65.
-fn sweep_block(plan: &[u64], count: usize, b: usize, table: &mut [u64], lengths: &mut [u64]) -> usize
+fn sweep_block(
+    plan: &[u64],
+    count: usize,
+    b: usize,
+    table: &mut [u64],
+    lengths: &mut [u64],
+) -> usize
     requires { ⌜ Ready (now plan) (now table) (now lengths) b × (320 * suc b ≤ length (now table)) ⌝ }
     ensures { λ r. ⌜ Turned (leftFrom (now (plan .entry)) (now (table .entry)) (now (lengths .entry)) b 1 (begunWith (now (plan .entry)) count b)) (now (table .entry)) (now (table .exit)) (now (lengths .entry)) (now (lengths .exit)) b r ⌝ }
 {
@@ -316,4 +327,37 @@ fn sweep_block(plan: &[u64], count: usize, b: usize, table: &mut [u64], lengths:
         lengths[b] = length as u64;
     }
     length
+}
+
+// The greater.
+fn greater(a: usize, b: usize) -> usize
+    ensures { λ r. ⌜ r ≡ max a b ⌝ }
+{
+    if a < b { b } else { a }
+}
+
+// What the rows came to: the highest crowded block, or the longest row and the length of row 0.
+enum Swept {
+    Crowded(usize),
+    Rows { kept: usize, found: usize },
+}
+
+// All rows, from the last block down, until one is crowded.
+fn sweep_rows(plan: &[u64], count: usize, table: &mut [u64]) -> Swept
+    requires { ⌜ PlanOf (now plan) count × (320 * count ≤ length (now table)) ⌝ }
+    ensures { λ r. ⌜ ((body : Body) → Planned body (now (plan .entry)) → Sound body → body .count ≡ count → SweptAs body (now (table .entry)) (now (table .exit)) r) ⌝ }
+{
+    let mut lengths = [0; 64];
+    let mut kept = 0;
+    let mut found = 0;
+    let mut b = count;
+    while b > 0 {
+        found = sweep_block(plan, count, b - 1, table, &mut lengths);
+        if found > 64 {
+            return Swept::Crowded(b - 1);
+        }
+        kept = greater(kept, found);
+        b -= 1;
+    }
+    Swept::Rows { kept, found }
 }

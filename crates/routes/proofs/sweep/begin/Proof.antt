@@ -11,8 +11,6 @@ use Rattle.routes.specs.SweepDown.{zeroRow, Holds, begun-last, begun-oth
 use borrow.Author.Needs.{needs}
 use Rattle.routes.proofs.sweep.begin.Statement.{statement}
 use Rattle.routes.proofs.sweep.begin.Tie as tie
-use Rattle.routes.proofs.sweep.begin.Reads as reads
-use Rattle.routes.proofs.sweep.begin.Lts as lts
 
 add-if1 : tie.Need-add-if1
 add-if1 c = search needs

@@ -7,8 +7,6 @@ use lib.ListN.{length, length-set}
 use lib.Seq.{paste, paste-zero, paste-suc}
 use Rattle.routes.proofs.sweep.store.Statement.{statement}
 use Rattle.routes.proofs.sweep.store.Tie as tie
-use Rattle.routes.proofs.sweep.store.Reads as reads
-use Rattle.routes.proofs.sweep.store.Lts as lts
 
 abbrev Inv-loop : tie.InvT-loop
 Inv-loop table₀ b row i₀ table i = (table ≡ paste table₀ (320 * b) row i) × ((i ≤ 320) × (length table ≡ length table₀))

@@ -5,11 +5,6 @@ use Rattle.routes.specs.SweepDown.{turned-whole, turned-over}
 use borrow.Author.Needs.{needs}
 use Rattle.routes.proofs.sweep.sweep_block.Statement.{statement}
 use Rattle.routes.proofs.sweep.sweep_block.Tie as tie
-use Rattle.routes.proofs.sweep.sweep_block.Reads as reads
-use Rattle.routes.proofs.sweep.sweep_block.Lts as lts
-use Rattle.routes.proofs.sweep.begin.Reads as begin-reads
-use Rattle.routes.proofs.sweep.build.Reads as build-reads
-use Rattle.routes.proofs.sweep.store.Reads as store-reads
 
 slice-aggregate-begin : tie.Need-slice-aggregate-begin
 slice-aggregate-begin c = search needs
