@@ -17,3 +17,5 @@ pub mod SweepTerms
 pub mod SweepTable
 pub mod SweepDown
 pub mod SweepDrive
+pub mod SweepAnswer
+pub mod SweepEnds

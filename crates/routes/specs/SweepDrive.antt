@@ -179,7 +179,7 @@ module _ (body : Body) (lent table lengths : List ℕ) (b kept found : ℕ) (ins
 
 -- ---- a turn, from the plan
 
-entry-mem : (l : List ℕ) (i n k : ℕ) → k < n → Mem (entryAt l (i + k)) (entriesFrom l i n)
+pub entry-mem : (l : List ℕ) (i n k : ℕ) → k < n → Mem (entryAt l (i + k)) (entriesFrom l i n)
 unfolding entriesFrom
 entry-mem l i (suc n) zero h = inl (ap (entryAt l) (add-zero i))
 entry-mem l i (suc n) (suc k) h = inr (subst (λ (j : ℕ). Mem (entryAt l j) (entriesFrom l (suc i) n)) (suc-add i k ∙ sym (add-suc i k)) (entry-mem l (suc i) n k (omega arith)))
@@ -240,21 +240,34 @@ abbrev pub completeFrom : Option ℕ → ℕ
 completeFrom none = 0
 completeFrom (some b) = suc b
 
-abbrev pub SweptAs : Body → (lent table : List ℕ) → Swept → Type 0
-SweptAs body lent table answer =
-    (answer ≡ sweptOf body (highestCrowd body (body .count))) × (table ≡ tableWith (rowsOf body) (completeFrom (highestCrowd body (body .count))) (body .count) lent)
+pub record SweptAs (body : Body) (lent table : List ℕ) (answer : Swept) : Type 0 where
+  pub answer-is : answer ≡ sweptOf body (highestCrowd body (body .count))
+  pub table-is : table ≡ tableWith (rowsOf body) (completeFrom (highestCrowd body (body .count))) (body .count) lent
+  pub first : (kept found : ℕ) → answer ≡ Rows kept found → entriesFrom table 0 found ≡ rowOf body 0
 
 pub swept-crowded : (body : Body) (lent table lengths : List ℕ) (b kept found : ℕ) → highestCrowd body (body .count) ≡ some b → Down body lent table lengths (suc b) kept found → SweptAs body lent table (Crowded b)
-swept-crowded body lent table lengths b kept found e d =
-    (sym (ap (sweptOf body) e), d .table-is ∙ ap (λ o. tableWith (rowsOf body) (completeFrom o) (body .count) lent) (sym e))
+swept-crowded body lent table lengths b kept found e d = record {
+  answer-is = sym (ap (sweptOf body) e);
+  table-is = d .table-is ∙ ap (λ o. tableWith (rowsOf body) (completeFrom o) (body .count) lent) (sym e);
+  first = λ k f q. absurd (never k f q);
+}
+  where
+    never : (k f : ℕ) → Crowded b ≡ Rows k f → ⊥
+    never k f q = let z : _≡_ {A = ℕ} 0 1 = cc in omega arith
 
 pub swept-whole : (body : Body) (lent table lengths : List ℕ) (kept found : ℕ) → 0 < body .count → Down body lent table lengths 0 kept found → SweptAs body lent table (Rows kept found)
 unfolding longest highest
-swept-whole body lent table lengths kept found any-block d =
-    (ends, d .table-is ∙ ap (λ o. tableWith (rowsOf body) (completeFrom o) (body .count) lent) (d .crowd-is))
+swept-whole body lent table lengths kept found any-block d = record {
+  answer-is = ap₂ Rows (sym (max-zero kept) ∙ d .kept-is) (d .found-is any-block) ∙ ap (sweptOf body) (d .crowd-is);
+  table-is = d .table-is ∙ ap (λ o. tableWith (rowsOf body) (completeFrom o) (body .count) lent) (d .crowd-is);
+  first = λ k f q. ap (entriesFrom table 0) (same k f q ∙ d .found-is any-block ∙ sym (ap length row-zero) ∙ entries-length table 0 (getD lengths 0 0)) ∙ row-zero;
+}
   where
-    ends : Rows kept found ≡ sweptOf body (highestCrowd body (body .count))
-    ends = ap₂ Rows (sym (max-zero kept) ∙ d .kept-is) (d .found-is any-block) ∙ ap (sweptOf body) (d .crowd-is)
+    row-zero : entriesFrom table 0 (getD lengths 0 0) ≡ rowOf body 0
+    row-zero = d .rows 0 (omega arith) any-block
+
+    same : (k f : ℕ) → Rows kept found ≡ Rows k f → f ≡ found
+    same k f q = cc
 
 -- ---- the loop
 

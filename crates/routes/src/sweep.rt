@@ -19,6 +19,9 @@ ghost use Rattle.routes.specs.WalkTerms.{PlanOf};
 ghost use Rattle.routes.specs.Plan.{Planned};
 ghost use Rattle.form.specs.declared.Body.{Body};
 ghost use Rattle.form.specs.Conflict.{Sound};
+ghost use Rattle.routes.specs.declared.sweep.SweepAnswer.the-variants.{Refused};
+ghost use Rattle.routes.specs.SweepAnswer.{sweepOutcome};
+ghost use Rattle.routes.specs.SweepEnds.{answerOf, outcomeOf};
 
 // Whether the first key comes before the second: by the jump set, then by the fall set.
 fn before(jumps: u64, falls: u64, jumps2: u64, falls2: u64) -> bool
@@ -360,4 +363,74 @@ fn sweep_rows(plan: &[u64], count: usize, table: &mut [u64]) -> Swept
         b -= 1;
     }
     Swept::Rows { kept, found }
+}
+
+// The sweep's answer: the loop count, the weight of the first heaviest route, count times weight, and the longest row; or the refusal's number and place.
+pub enum SweepAnswer {
+    Routed {
+        iterations: u64,
+        weight: u64,
+        bound: u64,
+        kept: u64,
+    },
+    Refused {
+        number: u32,
+        place: usize,
+    },
+}
+
+fn refuse(number: u32, place: usize) -> SweepAnswer
+    ensures { λ r. ⌜ r ≡ Refused number place ⌝ }
+{
+    SweepAnswer::Refused { number, place }
+}
+
+// From row 0, which has one entry or none: the answer, and the route's bytes.
+fn answer(
+    count: usize,
+    iterations: u64,
+    kept: usize,
+    found: usize,
+    table: &[u64],
+    route: &mut [u8],
+) -> SweepAnswer
+    requires { ⌜ (count ≤ length (now route)) × ((5 ≤ length (now table)) × (iterations < 4294967296)) ⌝ }
+    requires { ⌜ (0 < found → getD (now table) 2 0 ≤ 64000000) ⌝ }
+    ensures { λ r. ⌜ (r, now (route .exit)) ≡ answerOf count iterations kept found (now (table .entry)) (now (route .entry)) ⌝ }
+{
+    if found == 0 {
+        return refuse(43, 0);
+    }
+    let weight = table[2];
+    crate::route::write_route(count, table[3], table[4], route);
+    SweepAnswer::Routed {
+        iterations,
+        weight,
+        bound: iterations * weight,
+        kept: kept as u64,
+    }
+}
+
+// The sweep of a planned body whose loop count is known.
+fn sweep_planned(
+    plan: &[u64],
+    count: usize,
+    iterations: u64,
+    table: &mut [u64],
+    route: &mut [u8],
+) -> SweepAnswer
+    requires { ⌜ PlanOf (now plan) count × (iterations < 4294967296) ⌝ }
+    ensures { λ r. ⌜ ((body : Body) → Planned body (now (plan .entry)) → Sound body → body .count ≡ count → outcomeOf r (now (route .exit)) (now (table .exit)) ≡ sweepOutcome body (now (route .entry)) (now (table .entry)) iterations) ⌝ }
+{
+    if route.len() < count {
+        return refuse(42, count);
+    }
+    if table.len() < 320 * count {
+        return refuse(44, 64 * count);
+    }
+    let swept = sweep_rows(plan, count, table);
+    match swept {
+        Swept::Crowded(b) => refuse(40, b),
+        Swept::Rows { kept, found } => answer(count, iterations, kept, found, table, route),
+    }
 }
