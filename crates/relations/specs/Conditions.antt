@@ -36,7 +36,7 @@ above (suc (suc (suc (suc (suc zero))))) x y c h k = lt-leZ x c (omega arith) �
 above (suc (suc (suc (suc (suc (suc m)))))) x y c h k = refl
 
 -- below c, c itself or above c
-by-side : {X : Type 0} (x c : ℤ) → (up x + dn c < up c + dn x → X) → (x ≡ c → X) → (up c + dn x < up x + dn c → X) → X
+pub by-side : {X : Type 0} (x c : ℤ) → (up x + dn c < up c + dn x → X) → (x ≡ c → X) → (up c + dn x < up x + dn c → X) → X
 by-side {X} x c f g h = go (ltZ x c) (ltZ c x) refl refl
   where
     go : (t u : Bool) → ltZ x c ≡ t → ltZ c x ≡ u → X
@@ -44,10 +44,10 @@ by-side {X} x c f g h = go (ltZ x c) (ltZ c x) refl refl
     go false true e d = h (ltZ-true c x d)
     go false false e d = g (same-whole x c (omega (arith, ltZ-false x c e, ltZ-false c x d)))
 
-one-less : (z : ℤ) → up (z -ℤ pos 1) + dn z + 1 ≡ dn (z -ℤ pos 1) + up z
+pub one-less : (z : ℤ) → up (z -ℤ pos 1) + dn z + 1 ≡ dn (z -ℤ pos 1) + up z
 one-less z = omega (arith, diff-is z (pos 1))
 
-one-more : (z : ℤ) → up (z +ℤ pos 1) + dn z ≡ dn (z +ℤ pos 1) + up z + 1
+pub one-more : (z : ℤ) → up (z +ℤ pos 1) + dn z ≡ dn (z +ℤ pos 1) + up z + 1
 one-more z = omega (arith, sum-is z (pos 1))
 
 -- ---- a number that meets both has a fellow by a constant

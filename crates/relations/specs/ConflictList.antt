@@ -24,7 +24,7 @@ module _ (body : Body) (w : Onward body) (v : ℕ) where
   clean-up b s (here h) = omega arith
   clean-up b s (onward o h m c) = omega (arith, w .above b o m, clean-up (o .1) s c)
 
-  clean-out : (n b s : ℕ) → clean body v n b s ≡ true → Clean body v b s
+  pub clean-out : (n b s : ℕ) → clean body v n b s ≡ true → Clean body v b s
   unfolding clean
   clean-out zero b s h = clash h refl
   clean-out (suc n) b s h =

@@ -3,5 +3,10 @@ pub mod Relations
 pub mod Steps
 pub mod Loops
 pub mod Conditions
+pub mod PairTest
+pub mod Blocks
+pub mod Effects
 pub mod ConflictList
 pub mod Listed
+pub mod Joined
+pub mod Accepted

@@ -1,5 +1,5 @@
 -- What an accepted form's body owes the walks, and that what a call owes leaves one outcome. Rests on Owed, Plan and roundtrip's Sound.
-use mathlib.Core.Path.{_≡_, refl, sym, ap, _∙_}
+use mathlib.Core.Path.{_≡_, refl, sym, ap, subst, _∙_}
 use mathlib.Core.Bool.{Bool, true, false, _||_}
 use mathlib.Core.List.{List, [], _∷_}
 use Prim.Native.Nat.{ℕ, _+_, _<_, _≤_}
@@ -7,19 +7,24 @@ use native.Mathlib.Omega.{arith}
 use lib.Dec.{eqb}
 use lib.ListN.{length}
 use borrow.Author.Tests.{eqb-false}
+use Rattle.form.specs.declared.Body.{Body}
+use Rattle.form.specs.declared.Reading.{Reading}
 use Rattle.form.specs.declared.Verdict.{Verdict}
 use Rattle.form.specs.declared.Verdict.the-variants.{Accepted, Refused}
-use Rattle.form.specs.Form.{when, oneIf, isBlock, isEffect, recordsFrom, recordFault, endFault, judged, judgeEnds, judgeRecords, judge, bodyOf}
+use Rattle.form.specs.Form.{when, oneIf, isBlock, isEffect, recordsFrom, recordFault, endFault, judged, judgeEnds, judgeRecords, judge, bodyOf, zeroBody}
+use Rattle.form.specs.Answer.{accepted, reading}
 use Rattle.form.specs.Conflict.{block, Sound}
 use Rattle.form.specs.declared.Counter.{Counter}
 use Rattle.counter.specs.declared.Counted.{Counted}
 use Rattle.counter.specs.declared.Counted.the-variants.{Iterations, Refused as NoCount}
 use Rattle.counter.specs.Answer.{Values, said, Owed as Counter·Owed}
 use Rattle.counter.specs.Answer.Owed.{no-relation, no-count as without, counted as with-count}
+use Rattle.counter.specs.Uniqueness.{at-most}
 use Rattle.relations.specs.Loops.{count-once}
 use Rattle.roundtrip.specs.Acceptance.{refused}
 use Rattle.roundtrip.specs.Sound.{well-formed, sound}
 use Rattle.routes.specs.Plan.{Planned}
+use Rattle.routes.specs.WalkTerms.{PlanOf}
 use Rattle.routes.specs.Owed.{CountOf, Owed}
 use Rattle.routes.specs.Owed.Owed.{no-form, no-count, counted}
 
@@ -97,3 +102,37 @@ module _ {A : Type 0} (s : List ℕ) (refused-by : ℕ → ℕ → A) (with : �
   owed-counted k (no-relation h e) = absurd (known h)
   owed-counted k (without l never e) = absurd (omega (arith, ap (λ (v : Values). v .number) e))
   owed-counted k (with-count l j c e) = counted a j c (ap with (ap (λ (v : Values). v .iterations) e))
+
+-- ---- what is read
+
+module _ (s : List ℕ) (r : Reading) (e : r ≡ reading s) where
+  pub read-refused : {number place : ℕ} → r .verdict ≡ Refused number place → judge s ≡ Refused number place
+  read-refused v = sym (ap (λ (x : Reading). x .verdict) e) ∙ v
+
+  module _ (v : r .verdict ≡ Accepted) where
+    pub read-accepted : judge s ≡ Accepted
+    read-accepted = sym (ap (λ (x : Reading). x .verdict) e) ∙ v
+
+    pub read-body : r .body ≡ bodyOf s
+    read-body = ap (λ (x : Reading). x .body) e ∙ ap (λ (v : Verdict). when (accepted v) (bodyOf s) zeroBody) read-accepted
+
+    pub read-sound : Sound (r .body)
+    read-sound = subst Sound (sym read-body) (sound s read-accepted)
+
+    pub plan-of : {plan : List ℕ} → Planned (r .body) plan → PlanOf plan (r .body .count)
+    plan-of p =
+        record {
+          body = r .body;
+          planned = p;
+          sound = read-sound;
+          cheap = subst (λ (b : Body). (k : ℕ) → block b k .cost ≤ 1000000) (sym read-body) (cheap s read-accepted);
+          size = refl;
+        }
+
+    pub read-counted : (x : Counted) → CounterOwed (r .body .counter) x → CounterOwed (bodyOf s .counter) x
+    read-counted x o = subst (λ (b : Body). CounterOwed (b .counter) x) read-body o
+
+    pub few-iterations : (x : Counted) → CounterOwed (r .body .counter) x → iterationsOf x < 4294967296
+    few-iterations x o =
+        let most = at-most (bodyOf s .counter .initial) (bodyOf s .counter .step) (bodyOf s .counter .relation) (bodyOf s .counter .limit) (well-formed s read-accepted .initial) (said x) (read-counted x o) in
+        omega arith

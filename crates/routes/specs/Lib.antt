@@ -1,5 +1,6 @@
 -- The definitions and laws of the upper layer.
 pub mod Plan
+pub mod PlanLaws
 pub mod RouteWords
 pub mod Owed
 pub mod WalkAnswer

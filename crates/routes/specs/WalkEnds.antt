@@ -25,12 +25,13 @@ use Rattle.theory.specs.SweepWords.{Words, wordsOf, wordsFound, weight-most}
 use Rattle.theory.specs.WalkWords.{bytes-words}
 use Rattle.routes.specs.RouteWords.{bytesOf}
 use Rattle.routes.specs.declared.walk.Found.{Found}
-use Rattle.form.specs.declared.Verdict.the-variants.{Accepted}
+use Rattle.form.specs.declared.Verdict.the-variants.{Accepted, Refused as NoForm}
 use Rattle.form.specs.Form.{judge, bodyOf}
 use Rattle.counter.specs.declared.Counted.{Counted}
 use Rattle.counter.specs.declared.Counted.the-variants.{Iterations, Refused as NoCount}
 use Rattle.routes.specs.declared.walk.WalkAnswer.{WalkAnswer}
 use Rattle.routes.specs.declared.walk.WalkAnswer.the-variants.{Refused}
+use Rattle.routes.specs.Owed.Owed.{no-form}
 use Rattle.routes.specs.Accepted.{CounterOwed, owed-refused, owed-counted}
 use Rattle.routes.specs.WalkAnswer.{said, Outcome, refused, routed, walkOutcome, WalkOwed}
 use Rattle.routes.specs.WalkTerms.{routeFound, tallied, Searched, PlanOf}
@@ -128,6 +129,12 @@ weight-few plan count budget found p s l a =
 -- the bound fits a word
 pub product : (count weight : ℕ) → count < 4294967296 → weight ≤ 64000000 → Fits w64 (count * weight)
 product count weight h l = record { fits = lt-of-le-of-lt (le-trans (mul-le-mul-right weight (le-of-lt h)) (mul-le-mul-left 4294967296 l)) (lit< tt) }
+
+-- ---- with the reader's verdict
+
+pub unread : (form : List ℕ) (budget : ℕ) (lent : List ℕ) {number place : ℕ} {r : WalkAnswer} → judge form ≡ NoForm number place → r ≡ Refused number place
+    → WalkOwed form budget lent (said r, lent)
+unread form budget lent {number} {place} j e = no-form number place j (ap (λ (y : WalkAnswer). (said y, lent)) e)
 
 -- ---- with the counter's answer
 

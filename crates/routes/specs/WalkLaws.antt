@@ -2,7 +2,7 @@
 -- WalkTerms and on theory's Walk, Forward and Edges.
 use mathlib.Core.Path.{_≡_, refl, sym, ap, ap₂, subst, _∙_}
 use mathlib.Core.Logic.{inl, inr}
-use mathlib.Core.Bool.{Bool, true, false, not, cond, _||_, _&&_, and-false}
+use mathlib.Core.Bool.{Bool, true, false, not, cond, _||_, _&&_, and-false, or-false}
 use mathlib.Core.List.{List, [], _∷_, _++_}
 use mathlib.Core.Option.{Option, none, some}
 use Prim.Native.Nat.{ℕ, suc, _+_, _-_, _*_, _^_, _<_, _≤_}
@@ -14,12 +14,13 @@ use lib.Pow.{pow-lt}
 use lib.Dec.{eqb, ltb, leb}
 use lib.ListN.{length}
 use Rattle.laws.specs.Terms.{Mem, bit, heavier}
-use Rattle.laws.specs.Tests.{clash, and-out, or-out, or-none, not-out}
+use Rattle.laws.specs.Tests.{split, clash, and-out, or-out, or-none, not-out}
 use Rattle.laws.specs.Lists.{mem-append}
 use Rattle.laws.specs.Sets.{ext, bit-with, bit-none}
 use Rattle.laws.specs.Orders.{heaviest}
 use Rattle.form.specs.declared.Body.{Body}
 use Rattle.form.specs.Conflict.{Edge, block, exits, isTest, condition, touches, opposes, denies, Sound, Onward}
+use Rattle.relations.specs.Joined.{denies-test, opposes-test}
 use Rattle.theory.specs.Route.{stepCost}
 use Rattle.theory.specs.Row.{Key}
 use Rattle.theory.specs.Machine.{Forward}
@@ -38,9 +39,10 @@ use Rattle.routes.specs.WalkTerms.Took.{stays, goes}
 
 -- ---- words
 
--- a set with one more number
-pub with-is : (x k r : ℕ) → x < 2 ^ 64 → r < 2 ^ 64 → k < 64 → ((j : ℕ) → bit r j ≡ (bit x j || eqb j k)) → r ≡ bitOr x (2 ^ k)
-with-is x k r p q h bits = ext 64 q (or-lt 64 x (2 ^ k) p (pow-lt h)) (λ j l. bits j ∙ sym (bit-with x k j))
+-- a set with one more number, where the test holds
+pub put-is : (x k r : ℕ) (t : Bool) → x < 2 ^ 64 → r < 2 ^ 64 → k < 64 → ((j : ℕ) → bit r j ≡ (bit x j || (t && eqb j k))) → r ≡ cond t (bitOr x (2 ^ k)) x
+put-is x k r true p q h bits = ext 64 q (or-lt 64 x (2 ^ k) p (pow-lt h)) (λ j l. bits j ∙ sym (bit-with x k j))
+put-is x k r false p q h bits = ext 64 q p (λ j l. bits j ∙ or-false (bit x j))
 
 -- ---- the plan of a sound body is ready
 
@@ -73,13 +75,9 @@ only-tests : (x t w d : Bool) → (x ≡ true → t ≡ true) → (x && not (t &
 only-tests true t w d h = rw (h refl)
 only-tests false t w d h = refl
 
-pub test-denied : (body : Body) (b : ℕ) (e : Edge) → denies body b e ≡ true → isTest body (e .0) ≡ true
-unfolding denies
-test-denied body b e h = and-out (isTest body (e .0)) _ h .0
-
-pub test-opposed : (body : Body) (x e : Edge) → opposes body x e ≡ true → isTest body (e .0) ≡ true
-unfolding opposes
-test-opposed body x e h = and-out (isTest body (x .0)) (isTest body (e .0)) (and-out (isTest body (x .0) && isTest body (e .0)) _ h .0) .1
+-- what fails where the block is no test
+test-of : {a t : Bool} → (t ≡ false → a ≡ false) → a ≡ true → t ≡ true
+test-of {a} {t} h y = split t (λ e. e) (λ e. clash y (h e))
 
 module _ (body : Body) (plan : List ℕ) (p : Planned body plan) (b : ℕ) (h : b < body .count) (at here : Stand) (bars : Barred body (bannedAt at)) (e : Entered plan b at here) where
   pub entered-jump : (k : ℕ) → k < body .count → bit (here .jumps) k ≡ entered body b (bannedAt at) (k, 1)
@@ -117,8 +115,8 @@ module _ (body : Body) (plan : List ℕ) (p : Planned body plan) (b : ℕ) (h : 
     test-banned : (s : Key) (k w : ℕ) → (has s (k, w) ≡ true → isTest body k ≡ true) → (entered body b s (k, w) || opposes body (b, way) (k, w)) ≡ true → isTest body k ≡ true
     test-banned s k w known t =
         or-out (entered body b s (k, w)) _ t
-        (λ x. or-out (has s (k, w) && not (touches body b (condition body (k, w) .variable))) _ x (λ y. known (and-out (has s (k, w)) _ y .0)) (λ y. test-denied body b (k, w) y))
-        (λ x. test-opposed body (b, way) (k, w) x)
+        (λ x. or-out (has s (k, w) && not (touches body b (condition body (k, w) .variable))) _ x (λ y. known (and-out (has s (k, w)) _ y .0)) (λ y. test-of (λ f. denies-test body b (k, w) f) y))
+        (λ x. test-of (λ f. opposes-test body (b, way) (k, w) f) x)
 
     pub next-bars : Barred body (bannedAt next)
     unfolding has

@@ -58,31 +58,17 @@ fn enter(plan: &[u64], b: usize, at: Stand) -> Stand
     }
 }
 
-// After block b is left by jump or go.
-fn by_jump(plan: &[u64], b: usize, at: Stand) -> Stand
-    requires { ⌜ (length (now plan) ≡ 1024) × ((b < 64) × (at .weight + wordAt (now plan) b 2 < 2 ^ 64)) ⌝ }
-    ensures { λ r. ⌜ Left (now (plan .entry)) b 1 at r ⌝ }
+// After block b is left by a way, 1 jump or go, 2 fall: what its edge conflicts with is banned.
+fn leave(plan: &[u64], b: usize, way: usize, at: Stand) -> Stand
+    requires { ⌜ (length (now plan) ≡ 1024) × ((b < 64) × ((way < 3) × (at .weight + wordAt (now plan) b 2 < 2 ^ 64))) ⌝ }
+    ensures { λ r. ⌜ Left (now (plan .entry)) b way at r ⌝ }
 {
     Stand {
-        jumps: words::either(at.jumps, word(plan, b, 6)),
-        falls: words::either(at.falls, word(plan, b, 7)),
+        jumps: words::either(at.jumps, word(plan, b, 4 + 2 * way)),
+        falls: words::either(at.falls, word(plan, b, 5 + 2 * way)),
         weight: at.weight + word(plan, b, 2),
-        jumped: words::with(at.jumped, b),
-        fallen: at.fallen,
-    }
-}
-
-// After block b is left by fall.
-fn by_fall(plan: &[u64], b: usize, at: Stand) -> Stand
-    requires { ⌜ (length (now plan) ≡ 1024) × ((b < 64) × (at .weight + wordAt (now plan) b 2 < 2 ^ 64)) ⌝ }
-    ensures { λ r. ⌜ Left (now (plan .entry)) b 2 at r ⌝ }
-{
-    Stand {
-        jumps: words::either(at.jumps, word(plan, b, 8)),
-        falls: words::either(at.falls, word(plan, b, 9)),
-        weight: at.weight + word(plan, b, 2),
-        jumped: at.jumped,
-        fallen: words::with(at.fallen, b),
+        jumped: words::put(at.jumped, b, way == 1),
+        fallen: words::put(at.fallen, b, way == 2),
     }
 }
 
@@ -111,8 +97,9 @@ fn visit(plan: &[u64], count: usize, b: usize, at: Stand, found: Found) -> Found
     requires { ⌜ (length (now plan) ≡ 1024) × ((b < 64) × ((at .weight + wordAt (now plan) b 2 < 2 ^ 64) × (found .walked + 1 < 2 ^ 64))) ⌝ }
     ensures { λ r. ⌜ ((budget : ℕ) → tallied budget r ≡ visited (now (plan .entry)) count budget b at found) ⌝ }
 {
+    let walked = found.walked + 1;
     let seen = Found {
-        walked: found.walked + 1,
+        walked,
         any: found.any,
         weight: found.weight,
         jumped: found.jumped,
@@ -146,7 +133,7 @@ fn walk_from(plan: &[u64], count: usize, budget: u64, b: usize, at: Stand, found
             count,
             budget,
             jump as usize,
-            by_jump(plan, b, here),
+            leave(plan, b, 1, here),
             first,
         );
     }
@@ -157,7 +144,7 @@ fn walk_from(plan: &[u64], count: usize, budget: u64, b: usize, at: Stand, found
             count,
             budget,
             fall as usize,
-            by_fall(plan, b, here),
+            leave(plan, b, 2, here),
             second,
         );
     }
@@ -258,5 +245,30 @@ fn walk_counted(
             budget,
             route,
         ),
+    }
+}
+
+// The full walk, for any bytes: the loop count, the first heaviest conflict-free route with its bytes, count times weight, and walked; or a refusal, which changes
+// no lent byte.
+pub fn walk(form: &[u8], budget: u32, route: &mut [u8]) -> WalkAnswer
+    ensures { λ r. ⌜ WalkOwed (now (form .entry)) budget (now (route .entry)) (said r, now (route .exit)) ⌝ }
+{
+    let reading = form::read(form);
+    let verdict = reading.verdict;
+    let body = reading.body;
+    match verdict {
+        form::Verdict::Refused { number, place } => refuse(number, place),
+        form::Verdict::Accepted => {
+            let plan = crate::plan::plan_of(body);
+            let counter = body.counter;
+            let count = body.count;
+            walk_counted(
+                counter::count_of(counter),
+                &plan,
+                count,
+                budget as u64,
+                route,
+            )
+        }
     }
 }

@@ -1,17 +1,20 @@
 -- Loops that fill a word bit by bit, upward or downward, and a list place by place: where the loop stands, its start, its turn and its end. Rests on Sets.
 use mathlib.Core.Path.{_≡_, refl, sym, ap, ap₂, _∙_, subst}
 use mathlib.Core.Logic.{_⊎_, inl, inr}
-use mathlib.Core.Bool.{Bool, true, false, not, _&&_, _||_, and-true, and-false, or-false}
-use mathlib.Core.List.{List}
+use mathlib.Core.Bool.{Bool, true, false, not, _&&_, _||_, and-true, and-false, or-false, or-assoc}
+use mathlib.Core.List.{List, map}
 use Prim.Native.Nat.{ℕ, zero, suc, _+_, _-_, _^_, _≤_, _<_}
+use native.Mathlib.Nat.{zero-add, pow-suc}
+use native.Mathlib.Numerals.{add-one}
 use native.Mathlib.Omega.{arith}
 use borrow.Author.Tests.{eqb-true, eqb-false, eq-eqb, ne-eqb, ltb-true, ltb-false, lt-ltb, le-ltb, le-leb, lt-leb, leb-true, leb-false}
 use lib.Dec.{eqb, ltb, leb}
 use lib.ListN.{length, getD, set, length-set}
-use lib.Seq.{getD-set-same, getD-set-other}
-use Rattle.laws.specs.Terms.{bit}
+use lib.Seq.{getD-set-same, getD-set-other, ext-getD}
+use Rattle.words.specs.Tabled.{tabled, rows}
+use Rattle.laws.specs.Terms.{bit, any, range, setOf}
 use Rattle.laws.specs.Tests.{split}
-use Rattle.laws.specs.Sets.{bit-none, bit-beyond}
+use Rattle.laws.specs.Sets.{bit-none, bit-setOf, bit-setOf-beyond, below-or-not, ext}
 
 module _ (f : ℕ → Bool) where
   -- the word has the numbers below i with the test
@@ -64,6 +67,14 @@ module _ (f : ℕ → Bool) where
   pub downto-end : (w : ℕ) → Downto 0 w → (j : ℕ) → bit w j ≡ f j
   downto-end w inv j = inv j ∙ rw (le-leb 0 j (omega arith))
 
+-- for some number below n + 1: below n, or n itself
+pub any-last : (n : ℕ) (f : ℕ → Bool) → any (n + 1) f ≡ (any n f || f n)
+any-last n f = rw (add-one n) (go n f)
+  where
+    go : (n : ℕ) (f : ℕ → Bool) → any (suc n) f ≡ (any n f || f n)
+    go zero f = or-false (f 0)
+    go (suc n) f = ap (λ b. f 0 || b) (go n (λ i. f (suc i))) ∙ sym (or-assoc (f 0) (any n (λ i. f (suc i))) (f (suc n)))
+
 -- a list of n places that tells what it should at those below i
 pub record Told {A : Type 0} (z : A) (P : ℕ → A → Type 0) (n i : ℕ) (l : List A) : Type 0 where
   pub size : length l ≡ n
@@ -90,3 +101,67 @@ module _ {A : Type 0} (z : A) (P : ℕ → A → Type 0) (n : ℕ) where
   -- the loop is at its end
   pub told-end : (i : ℕ) (l : List A) → n ≤ i → Told z P n i l → Told z P n n l
   told-end i l h inv = record { size = inv .size; at = λ b k. inv .at b (omega arith) }
+
+  -- what a list tells in other words
+  pub told-as : (Q : ℕ → A → Type 0) (l : List A) → Told z P n n l → ((b : ℕ) (x : A) → b < n → P b x → Q b x) → Told z Q n n l
+  told-as Q l inv f = record { size = inv .size; at = λ b k. f b (getD l b z) k (inv .at b k) }
+
+-- ---- a list that is told whole
+
+module _ {A : Type 0} (f : ℕ → A) where
+  from-length : (a n : ℕ) → length (map f (range a n)) ≡ n
+  from-length a zero = refl
+  from-length a (suc n) = ap suc (from-length (suc a) n)
+
+  from-at : (a n i : ℕ) (z : A) → i < n → getD (map f (range a n)) i z ≡ f (a + i)
+  from-at a zero i z h = absurd (no h)
+    where
+      no : i < 0 → ⊥
+      no h = omega arith
+  from-at a (suc n) zero z h = ap f (none a)
+    where
+      none : (a : ℕ) → a ≡ a + 0
+      none a = omega arith
+  from-at a (suc n) (suc i) z h = from-at (suc a) n i z (omega arith) ∙ ap f (over a i)
+    where
+      over : (a i : ℕ) → suc a + i ≡ a + suc i
+      over a i = omega arith
+
+  pub tabled-length : (n : ℕ) → length (tabled n f) ≡ n
+  unfolding tabled
+  tabled-length n = from-length 0 n
+
+  pub tabled-at : (n i : ℕ) (z : A) → i < n → getD (tabled n f) i z ≡ f i
+  unfolding tabled
+  tabled-at n i z h = from-at 0 n i z h ∙ ap f (zero-add i)
+
+  pub told-tabled : (z : A) (n : ℕ) (l : List A) → Told z (λ b x. x ≡ f b) n n l → l ≡ tabled n f
+  told-tabled z n l t = ext-getD z l (tabled n f) (t .size ∙ sym (tabled-length n)) (λ i h. t .at i (omega (arith, t .size)) ∙ sym (tabled-at n i z (omega (arith, t .size))))
+
+-- words with the same bits are equal
+n-lt-pow : (n : ℕ) → n < 2 ^ n
+n-lt-pow zero = omega arith
+n-lt-pow (suc n) = let e = pow-suc 2 n in omega (arith, n-lt-pow n)
+
+pub same-bits : (x y : ℕ) → ((k : ℕ) → bit x k ≡ bit y k) → x ≡ y
+same-bits x y h = ext (x + y) (below x (x + y) (omega arith)) (below y (x + y) (omega arith)) (λ k l. h k)
+  where
+    below : (a n : ℕ) → a ≤ n → a < 2 ^ n
+    below a n l = omega (arith, n-lt-pow n)
+
+module _ (f : ℕ → ℕ → Bool) (none : (b k : ℕ) → 64 ≤ k → f b k ≡ false) where
+  set-bit : (b k : ℕ) → bit (setOf 64 (f b)) k ≡ f b k
+  set-bit b k = go (below-or-not k 64)
+    where
+      go : (k < 64) ⊎ (64 ≤ k) → bit (setOf 64 (f b)) k ≡ f b k
+      go (inl l) = bit-setOf 64 (f b) k l
+      go (inr l) = bit-setOf-beyond 64 (f b) k l ∙ sym (none b k l)
+
+  pub told-rows : (l : List ℕ) → Told 0 (λ b x. (k : ℕ) → bit x k ≡ f b k) 64 64 l → l ≡ rows f
+  unfolding rows
+  told-rows l t = told-tabled (λ b. setOf 64 (f b)) 0 64 l (record { size = t .size; at = λ b h. same-bits (getD l b 0) (setOf 64 (f b)) (λ k. t .at b h k ∙ sym (set-bit b k)) })
+
+  -- what each bit of the rows is
+  pub rows-bit : (b : ℕ) → b < 64 → (k : ℕ) → bit (getD (rows f) b 0) k ≡ f b k
+  unfolding rows
+  rows-bit b h k = ap (λ x. bit x k) (tabled-at (λ b. setOf 64 (f b)) 64 b 0 h) ∙ set-bit b k

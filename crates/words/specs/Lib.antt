@@ -1,2 +1,3 @@
--- What the proofs over words share.
+-- What contracts over words say, and what their proofs share.
+pub mod Tabled
 pub mod Filled

@@ -14,8 +14,7 @@ use Rattle.routes.specs.WalkLaws.{walks, onward, took-goes, took-stays}
 use Rattle.routes.proofs.walk.walk_from.Reads as walk-from
 use Rattle.routes.proofs.walk.walk_from.Kinds as walk-from-kinds
 use Rattle.routes.proofs.walk.+walk_from.Lts-walk_from as lts
-use Rattle.routes.proofs.walk.by_fall.Reads as by-fall-reads
-use Rattle.routes.proofs.walk.by_jump.Reads as by-jump-reads
+use Rattle.routes.proofs.walk.leave.Reads as leave-reads
 use Rattle.routes.proofs.walk.enter.Reads as enter-reads
 use Rattle.routes.proofs.walk.open.Reads as open-reads
 use Rattle.routes.proofs.walk.visit.Reads as visit-reads
@@ -43,12 +42,10 @@ claims t = (
   word-reads.Learnt,
   open-reads.Asked,
   open-reads.Learnt,
-  by-jump-reads.Asked,
-  by-jump-reads.Learnt,
+  leave-reads.Asked,
+  leave-reads.Learnt,
   below t,
   walk-from.Post,
-  by-fall-reads.Asked,
-  by-fall-reads.Learnt,
 )
 
 enter-requires : (t : ℕ) → lts.Need-enter-requires (claims t) (at t) walk-from.Post
@@ -68,8 +65,8 @@ word-requires t c κs = (c .before .before .before .pre .1 .0 .size, omega arith
 open-requires : (t : ℕ) → lts.Need-open-requires (claims t) (at t) walk-from.Post
 open-requires t c κs = search needs
 
-by-jump-requires : (t : ℕ) → lts.Need-by-jump-requires (claims t) (at t) walk-from.Post
-by-jump-requires t c κs =
+leave-requires : (t : ℕ) → lts.Need-leave-requires (claims t) (at t) walk-from.Post
+leave-requires t c κs =
     let start = c .before .before .before .before .before .before in
     let pre = start .pre .1 in
     let same = c .before .before .before .before .enter .ensures .weight in
@@ -81,9 +78,9 @@ walk-from-requires t c κs =
     let start = c .before .before .before .before .before .before .before in
     let pre = start .pre .1 in
     let on = onward (start .args .plan .now) (start .args .count) (start .args .budget) (start .args .b) (c .before .before .before .word .result) 0 (c .before .before .before .before .before .enter .result .jumps)
-    (start .args .at) (c .before .before .before .before .before .enter .result) (c .by-jump .result) (c .before .before .before .before .visit .result) (pre .0) (pre .1 .0)
+    (start .args .at) (c .before .before .before .before .before .enter .result) (c .leave .result) (c .before .before .before .before .visit .result) (pre .0) (pre .1 .0)
     (c .before .before .before .word .ensures) (pre .0 .jump-on (start .args .b) (pre .1 .0)) (pre .0 .jump-inside (start .args .b) (pre .1 .0))
-    (sym (c .before .before .«open» .ensures) ∙ c .before .if1 .taken) (pre .1 .1 .0) (c .before .before .before .before .before .enter .ensures .weight) (c .by-jump .ensures .weight) in
+    (sym (c .before .before .«open» .ensures) ∙ c .before .if1 .taken) (pre .1 .1 .0) (c .before .before .before .before .before .enter .ensures .weight) (c .leave .ensures .weight) in
     (subst (λ (j : ℕ). start .args .count - c .before .before .before .word .result < j) (start .pre .0) (on .0), (pre .0, (on .1 .0, (on .1 .1 .0, (on .1 .1 .1, pre .1 .1 .1 .1)))))
 
 -- what the jump comes to
@@ -102,8 +99,8 @@ word-requires-2 t c κs = (c .before .before .before .before .before .before .pr
 open-requires-2 : (t : ℕ) → lts.Need-open-requires-2 (claims t) (at t) walk-from.Post
 open-requires-2 t c κs = search needs
 
-by-fall-requires : (t : ℕ) → lts.Need-by-fall-requires (claims t) (at t) walk-from.Post
-by-fall-requires t c κs =
+leave-requires-2 : (t : ℕ) → lts.Need-leave-requires-2 (claims t) (at t) walk-from.Post
+leave-requires-2 t c κs =
     let start = c .before .before .before .before .before .before .before .before .before in
     let pre = start .pre .1 in
     let same = c .before .before .before .before .before .before .before .enter .ensures .weight in
@@ -115,9 +112,9 @@ walk-from-requires-2 t c κs =
     let start = c .before .before .before .before .before .before .before .before .before .before in
     let pre = start .pre .1 in
     let on = onward (start .args .plan .now) (start .args .count) (start .args .budget) (start .args .b) (c .before .before .before .word2 .result) 1 (c .before .before .before .before .before .before .before .before .enter .result .falls)
-    (start .args .at) (c .before .before .before .before .before .before .before .before .enter .result) (c .by-fall .result) (c .before .before .before .before .if1 .second) (pre .0) (pre .1 .0)
+    (start .args .at) (c .before .before .before .before .before .before .before .before .enter .result) (c .leave2 .result) (c .before .before .before .before .if1 .second) (pre .0) (pre .1 .0)
     (c .before .before .before .word2 .ensures) (pre .0 .fall-on (start .args .b) (pre .1 .0)) (pre .0 .fall-inside (start .args .b) (pre .1 .0))
-    (sym (c .before .before .open2 .ensures) ∙ c .before .if2 .taken) (pre .1 .1 .0) (c .before .before .before .before .before .before .before .before .enter .ensures .weight) (c .by-fall .ensures .weight) in
+    (sym (c .before .before .open2 .ensures) ∙ c .before .if2 .taken) (pre .1 .1 .0) (c .before .before .before .before .before .before .before .before .enter .ensures .weight) (c .leave2 .ensures .weight) in
     (subst (λ (j : ℕ). start .args .count - c .before .before .before .word2 .result < j) (start .pre .0) (on .0), (pre .0, (on .1 .0, (on .1 .1 .0, (on .1 .1 .1, pre .1 .1 .1 .1)))))
 
 returns : (t : ℕ) → lts.Need-returns (claims t) (at t) walk-from.Post
@@ -126,7 +123,7 @@ returns t c =
     let here = c .before .before .before .before .before .before .before .before .before in
     walks (start .args .plan .now) (start .args .count) (start .args .budget) (start .args .b) (start .pre .1 .1 .0) (start .args .at) (here .enter .result) (here .enter .ensures)
     (start .args .found) (c .before .before .before .before .before .before .before .before .visit .result) (c .before .before .before .before .before .if1 .second) (c .walk-from2 .result) (c .before .before .before .before .before .before .before .before .visit .ensures (start .args .budget)) (jumped t (c .before .before .before .before .before))
-    (took-goes (c .before .before .before .before .word2 .ensures) (c .before .before .before .open2 .ensures) (c .before .before .if2 .taken) (c .before .by-fall .ensures) (c .walk-from2 .ensures) refl)
+    (took-goes (c .before .before .before .before .word2 .ensures) (c .before .before .before .open2 .ensures) (c .before .before .if2 .taken) (c .before .leave2 .ensures) (c .walk-from2 .ensures) refl)
 
 returns-2 : (t : ℕ) → lts.Need-returns-2 (claims t) (at t) walk-from.Post
 returns-2 t c =
@@ -142,11 +139,11 @@ pub +walk-from-spec : {M : Type 1} → statement M
     (visit-requires t)
     (word-requires t)
     (open-requires t)
-    (by-jump-requires t)
+    (leave-requires t)
     (walk-from-requires t)
     (word-requires-2 t)
     (open-requires-2 t)
-    (by-fall-requires t)
+    (leave-requires-2 t)
     (walk-from-requires-2 t)
     (returns t)
     (returns-2 t)

@@ -14,8 +14,8 @@ use borrow.Author.Needs.{needs}
 use Rattle.routes.proofs.walk.visit.Statement.{statement}
 use Rattle.routes.proofs.walk.visit.Tie as tie
 
-add-t7 : tie.Need-add-t7
-add-t7 c = search needs
+add-walked : tie.Need-add-walked
+add-walked c = search needs
 
 add-if1 : tie.Need-add-if1
 add-if1 c = search needs
@@ -39,4 +39,4 @@ returns-2 c budget =
     (rw (← add-one (start .args .b)) (ne-eqb (start .args .b + 1) (start .args .count) (λ e. c .if1 .left e))) refl refl
 
 pub visit-spec : {M : Type 1} → statement M
-visit-spec = tie.close (tie.spec add-t7 add-if1 word-requires keep-requires returns returns-2)
+visit-spec = tie.close (tie.spec add-walked add-if1 word-requires keep-requires returns returns-2)

@@ -1,0 +1,7 @@
+-- The definitions that the contracts of the conflicts cite, and what they leave.
+pub mod Pair
+pub mod Sets
+pub mod Parts
+pub mod Turns
+pub mod Reaching
+pub mod Finding
