@@ -12,7 +12,7 @@ use lib.ListN.{length, getD, take, drop}
 use Rattle.laws.specs.Terms.{Mem, heavier}
 use Rattle.laws.specs.Orders.{heaviest}
 use Rattle.form.specs.declared.Body.{Body}
-use Rattle.form.specs.declared.Verdict.the-variants.{Accepted}
+use Rattle.form.specs.declared.Verdict.the-variants.{Accepted, Refused as Unread}
 use Rattle.form.specs.Form.{judge, bodyOf}
 use Rattle.form.specs.Conflict.{Sound, conflicts}
 use Rattle.counter.specs.declared.Counted.{Counted}
@@ -29,6 +29,7 @@ use Rattle.routes.specs.declared.sweep.SweepAnswer.{SweepAnswer}
 use Rattle.routes.specs.declared.sweep.SweepAnswer.the-variants.{Routed, Refused}
 use Rattle.routes.specs.RouteWords.{bytesOf}
 use Rattle.routes.specs.Owed.{Owed}
+use Rattle.routes.specs.Owed.Owed.{no-form}
 use Rattle.routes.specs.Accepted.{CounterOwed, owed-refused, owed-counted}
 use Rattle.routes.specs.Plan.{Planned}
 use Rattle.routes.specs.Entries.{entryAt, entriesFrom, entries-length}
@@ -160,3 +161,8 @@ module _ (form : List ℕ) (route table : List ℕ) (a : judge form ≡ Accepted
   with-count {k} e y f =
       subst (SweepOwed form route table) (sym f)
       (owed-counted form (refused route table) (sweepOutcome (bodyOf form) route table) a k (subst (CounterOwed (bodyOf form .counter)) e o))
+
+-- ---- a form that the reader refuses
+
+pub unread : (form : List ℕ) (route table : List ℕ) {number place : ℕ} {r : SweepAnswer} → judge form ≡ Unread number place → r ≡ Refused number place → SweepOwed form route table (outcomeOf r route table)
+unread form route table {number} {place} j e = no-form number place j (ap (λ (x : SweepAnswer). outcomeOf x route table) e)

@@ -20,8 +20,12 @@ ghost use Rattle.routes.specs.Plan.{Planned};
 ghost use Rattle.form.specs.declared.Body.{Body};
 ghost use Rattle.form.specs.Conflict.{Sound};
 ghost use Rattle.routes.specs.declared.sweep.SweepAnswer.the-variants.{Refused};
-ghost use Rattle.routes.specs.SweepAnswer.{sweepOutcome};
+ghost use Rattle.routes.specs.SweepAnswer.{sweepOutcome, SweepOwed};
 ghost use Rattle.routes.specs.SweepEnds.{answerOf, outcomeOf};
+ghost use Rattle.form.specs.declared.Verdict.the-variants.{Accepted};
+ghost use Rattle.form.specs.Form.{judge, bodyOf};
+ghost use Rattle.routes.specs.Accepted.{CounterOwed, iterationsOf};
+ghost use mathlib.Core.List.{List};
 
 // Whether the first key comes before the second: by the jump set, then by the fall set.
 fn before(jumps: u64, falls: u64, jumps2: u64, falls2: u64) -> bool
@@ -432,5 +436,47 @@ fn sweep_planned(
     match swept {
         Swept::Crowded(b) => refuse(40, b),
         Swept::Rows { kept, found } => answer(count, iterations, kept, found, table, route),
+    }
+}
+
+// The sweep of a planned body, with the counter's answer.
+fn sweep_counted(
+    counted: counter::Counted,
+    plan: &[u64],
+    count: usize,
+    table: &mut [u64],
+    route: &mut [u8],
+) -> SweepAnswer
+    requires { ⌜ PlanOf (now plan) count × (iterationsOf counted < 4294967296) ⌝ }
+    ensures { λ r. ⌜ ((form : List ℕ) → judge form ≡ Accepted → Planned (bodyOf form) (now (plan .entry)) → bodyOf form .count ≡ count → CounterOwed (bodyOf form .counter) counted → SweepOwed form (now (route .entry)) (now (table .entry)) (outcomeOf r (now (route .exit)) (now (table .exit)))) ⌝ }
+{
+    match counted {
+        counter::Counted::Refused { number, place } => refuse(number, place),
+        counter::Counted::Iterations(iterations) => sweep_planned(
+            plan,
+            count,
+            iterations,
+            table,
+            route,
+        ),
+    }
+}
+
+// The sweep, for any bytes: the loop count, the first heaviest conflict-free route with its bytes, count times weight, and the longest row, with all rows in the
+// table; or a refusal. The table is flat words, five to an entry, row b from word 320 b on.
+pub fn sweep(form: &[u8], table: &mut [u64], route: &mut [u8]) -> SweepAnswer
+    ensures { λ r. ⌜ SweepOwed (now (form .entry)) (now (route .entry)) (now (table .entry)) (outcomeOf r (now (route .exit)) (now (table .exit))) ⌝ }
+{
+    let reading = form::read(form);
+    let verdict = reading.verdict;
+    let body = reading.body;
+    match verdict {
+        form::Verdict::Refused { number, place } => refuse(number, place),
+        form::Verdict::Accepted => {
+            let plan = crate::plan::plan_of(body);
+            let counter = body.counter;
+            let count = body.count;
+            sweep_counted(counter::count_of(counter), &plan, count, table, route)
+        }
     }
 }
