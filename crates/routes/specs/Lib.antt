@@ -20,3 +20,4 @@ pub mod SweepDown
 pub mod SweepDrive
 pub mod SweepAnswer
 pub mod SweepEnds
+pub mod SweepPromise
