@@ -18,7 +18,8 @@ build)
     trap 'rm -f "$object"' EXIT
     "$tools/clang" --target=x86_64-linux-gnu -std=c11 -Wall -Wextra -Werror -O2 -ffreestanding -fno-builtin \
         -fno-stack-protector -fno-pic -c "$here/serve.c" -o "$object"
-    "$tools/ld.lld" -static -o "$3" "$object" "$2"
+    # All of the library: a weak name, as serve.c has them, draws nothing out of an archive.
+    "$tools/ld.lld" -static -o "$3" "$object" --whole-archive "$2"
     ;;
 run)
     [ $# -eq 2 ] || { echo "usage: serve.sh run PROGRAM" >&2; exit 2; }

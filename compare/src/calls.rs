@@ -3,11 +3,13 @@
 //! A refusal changes no lent memory but what the document excepts (40 and 43 from the sweep). On success the bytes
 //! past the written list or route, and the rows past the last block, are unchanged.
 
-use crate::conflict::{conflict_list, list_bytes};
+use std::cell::OnceCell;
+
+use crate::conflict::{conditions_conflict, conflict_list, list_bytes, Condition, Entry};
 use crate::counter;
-use crate::form::{self, Body, Refusal};
-use crate::routes::{heaviest_route, walked};
-use crate::rows::{swept, RowEntry, ROW_ENTRIES};
+use crate::form::{self, Body, Refusal, HIGHEST_RELATION};
+use crate::routes::{heaviest_route, walked, Route};
+use crate::rows::{swept, RowEntry, Swept, ROW_ENTRIES};
 use crate::ways::ways_to_list;
 
 /// More ways than this are not listed: the body is too large for this program, and it says so.
@@ -42,11 +44,110 @@ pub struct SweepAnswer {
     pub kept: u64,
 }
 
-fn refuse_too_many_ways(body: &Body) -> Result<(), NoAnswer> {
-    if ways_to_list(body) > MOST_WAYS {
-        return Err(NoAnswer::TooManyWays);
+/// A form, with what has been found out about it. What takes listing is found when it is first asked for and then kept,
+/// so that a form may be asked about with many budgets and much lent memory.
+pub struct Listing {
+    body: Result<Body, Refusal>,
+    list: OnceCell<Vec<Entry>>,
+    walked: OnceCell<u64>,
+    heaviest: OnceCell<Option<Route>>,
+    swept: OnceCell<Swept>,
+}
+
+impl Listing {
+    pub fn of(form: &[u8]) -> Listing {
+        Listing {
+            body: form::read(form),
+            list: OnceCell::new(),
+            walked: OnceCell::new(),
+            heaviest: OnceCell::new(),
+            swept: OnceCell::new(),
+        }
     }
-    Ok(())
+
+    /// The reader: 10 to 19.
+    pub fn body(&self) -> Result<&Body, Refusal> {
+        self.body.as_ref().map_err(|refusal| *refusal)
+    }
+
+    /// The form written back: the number of bytes written. 10 to 19, then 42.
+    pub fn rewrite(&self, out: &mut [u8]) -> Result<usize, Refusal> {
+        form::write(self.body()?, out)
+    }
+
+    /// The conflict list into `out`: the number of bytes written. 10 to 19, then 42.
+    pub fn conflicts(&self, out: &mut [u8]) -> Result<usize, NoAnswer> {
+        let bytes = list_bytes(self.list()?);
+        refuse_short(42, out.len(), bytes.len())?;
+        out[..bytes.len()].copy_from_slice(&bytes);
+        Ok(bytes.len())
+    }
+
+    /// The full walk: 10 to 20, 42, 41, 43.
+    pub fn walk(&self, budget: u32, route: &mut [u8]) -> Result<WalkAnswer, NoAnswer> {
+        let body = self.body()?;
+        let count = counter::count(&body.counter)?;
+        refuse_short(42, route.len(), body.block_count)?;
+        let walked = self.walked()?;
+        if walked > budget as u64 {
+            return Err(Refusal::new(41, budget as usize).into());
+        }
+        let weight = self.write_route(route)?;
+        Ok(WalkAnswer { count, weight, bound: count * weight, walked })
+    }
+
+    /// The sweep over a lent table: 10 to 20, 42, 44, 40, 43. At 40 the rows above the crowded block are complete and
+    /// the others unchanged; at 43 all are complete.
+    pub fn sweep(&self, table: &mut [RowEntry], route: &mut [u8]) -> Result<SweepAnswer, NoAnswer> {
+        let body = self.body()?;
+        let count = counter::count(&body.counter)?;
+        refuse_short(42, route.len(), body.block_count)?;
+        refuse_short(44, table.len(), ROW_ENTRIES * body.block_count)?;
+        let swept = self.swept()?;
+        for (block, entries) in &swept.rows {
+            let in_table = &mut table[ROW_ENTRIES * block..ROW_ENTRIES * (block + 1)];
+            in_table.fill(RowEntry::default());
+            in_table[..entries.len()].copy_from_slice(entries);
+        }
+        if let Some(block) = swept.crowded {
+            return Err(Refusal::new(40, block).into());
+        }
+        let weight = self.write_route(route)?;
+        let kept = swept.rows.iter().map(|(_, entries)| entries.len() as u64).max().unwrap();
+        Ok(SweepAnswer { count, weight, bound: count * weight, kept })
+    }
+
+    pub fn list(&self) -> Result<&Vec<Entry>, NoAnswer> {
+        let body = self.body_to_list()?;
+        Ok(self.list.get_or_init(|| conflict_list(body)))
+    }
+
+    pub fn walked(&self) -> Result<u64, NoAnswer> {
+        let body = self.body_to_list()?;
+        Ok(*self.walked.get_or_init(|| walked(body)))
+    }
+
+    fn swept(&self) -> Result<&Swept, NoAnswer> {
+        let (body, list) = (self.body_to_list()?, self.list()?);
+        Ok(self.swept.get_or_init(|| swept(body, list)))
+    }
+
+    /// The heaviest route's bytes into `route`; its weight.
+    fn write_route(&self, route: &mut [u8]) -> Result<u64, NoAnswer> {
+        let body = self.body_to_list()?;
+        let heaviest = self.heaviest.get_or_init(|| heaviest_route(body)).as_ref().ok_or(Refusal::new(43, 0))?;
+        route[..body.block_count].copy_from_slice(&heaviest.bytes(body));
+        Ok(heaviest.weight)
+    }
+
+    /// The body, if its ways are few enough to be listed.
+    fn body_to_list(&self) -> Result<&Body, NoAnswer> {
+        let body = self.body()?;
+        if ways_to_list(body) > MOST_WAYS {
+            return Err(NoAnswer::TooManyWays);
+        }
+        Ok(body)
+    }
 }
 
 fn refuse_short(number: u32, lent: usize, needed: usize) -> Result<(), Refusal> {
@@ -56,50 +157,21 @@ fn refuse_short(number: u32, lent: usize, needed: usize) -> Result<(), Refusal> 
     Ok(())
 }
 
-/// The conflict list into `out`: the number of bytes written. 10 to 19, then 42.
 pub fn conflicts(form: &[u8], out: &mut [u8]) -> Result<usize, NoAnswer> {
-    let body = form::read(form)?;
-    refuse_too_many_ways(&body)?;
-    let bytes = list_bytes(&conflict_list(&body));
-    refuse_short(42, out.len(), bytes.len())?;
-    out[..bytes.len()].copy_from_slice(&bytes);
-    Ok(bytes.len())
+    Listing::of(form).conflicts(out)
 }
 
-/// The full walk: 10 to 20, 42, 41, 43.
 pub fn walk(form: &[u8], budget: u32, route: &mut [u8]) -> Result<WalkAnswer, NoAnswer> {
-    let body = form::read(form)?;
-    let count = counter::count(&body.counter)?;
-    refuse_short(42, route.len(), body.block_count)?;
-    refuse_too_many_ways(&body)?;
-    let walked = walked(&body);
-    if walked > budget as u64 {
-        return Err(Refusal::new(41, budget as usize).into());
-    }
-    let heaviest = heaviest_route(&body).ok_or(Refusal::new(43, 0))?;
-    route[..body.block_count].copy_from_slice(&heaviest.bytes(&body));
-    Ok(WalkAnswer { count, weight: heaviest.weight, bound: count * heaviest.weight, walked })
+    Listing::of(form).walk(budget, route)
 }
 
-/// The sweep over a lent table: 10 to 20, 42, 44, 40, 43. At 40 the rows above the crowded block are complete and the
-/// others unchanged; at 43 all are complete.
 pub fn sweep(form: &[u8], table: &mut [RowEntry], route: &mut [u8]) -> Result<SweepAnswer, NoAnswer> {
-    let body = form::read(form)?;
-    let count = counter::count(&body.counter)?;
-    refuse_short(42, route.len(), body.block_count)?;
-    refuse_short(44, table.len(), ROW_ENTRIES * body.block_count)?;
-    refuse_too_many_ways(&body)?;
-    let swept = swept(&body, &conflict_list(&body));
-    for (block, entries) in &swept.rows {
-        let in_table = &mut table[ROW_ENTRIES * block..ROW_ENTRIES * (block + 1)];
-        in_table.fill(RowEntry::default());
-        in_table[..entries.len()].copy_from_slice(entries);
-    }
-    if let Some(block) = swept.crowded {
-        return Err(Refusal::new(40, block).into());
-    }
-    let heaviest = heaviest_route(&body).ok_or(Refusal::new(43, 0))?;
-    route[..body.block_count].copy_from_slice(&heaviest.bytes(&body));
-    let kept = swept.rows.iter().map(|(_, entries)| entries.len() as u64).max().unwrap();
-    Ok(SweepAnswer { count, weight: heaviest.weight, bound: count * heaviest.weight, kept })
+    Listing::of(form).sweep(table, route)
+}
+
+/// Do two conditions on one variable conflict? A relation above 5 is met by no number.
+pub fn pair(relation1: u8, constant1: i32, relation2: u8, constant2: i32) -> bool {
+    let one = Condition { variable: 0, relation: relation1, constant: constant1 };
+    let other = Condition { variable: 0, relation: relation2, constant: constant2 };
+    relation1.max(relation2) > HIGHEST_RELATION || conditions_conflict(&one, &other)
 }

@@ -13,8 +13,12 @@ pub enum Kind {
     Small,
     /// An accepted form with about as many sets of open edges as a row holds, and more.
     Crowding,
-    /// An accepted form of 10 to 24 blocks, seldom up to 64, with few branches, so that its ways can be listed.
+    /// An accepted form of 10 to 24 blocks, seldom up to 64, with few branches.
     Long,
+    /// An accepted form of 10 to 24 blocks with as many branches as can be listed well: rows of all lengths.
+    Branching,
+    /// An accepted form of 18 to 24 blocks, nearly all of which branch: often more ways than can be listed.
+    Wide,
     /// An accepted form whose records were changed by field, order or number.
     Faulty,
     /// An accepted form whose bytes were cut, changed, added to or joined to another form's.
@@ -25,8 +29,17 @@ pub enum Kind {
     Limit,
 }
 
-pub const KINDS: [Kind; 7] =
-    [Kind::Small, Kind::Crowding, Kind::Long, Kind::Faulty, Kind::Damaged, Kind::Noise, Kind::Limit];
+pub const KINDS: [Kind; 9] = [
+    Kind::Small,
+    Kind::Crowding,
+    Kind::Long,
+    Kind::Branching,
+    Kind::Wide,
+    Kind::Faulty,
+    Kind::Damaged,
+    Kind::Noise,
+    Kind::Limit,
+];
 
 impl Kind {
     pub fn name(self) -> &'static str {
@@ -34,6 +47,8 @@ impl Kind {
             Kind::Small => "small",
             Kind::Crowding => "crowding",
             Kind::Long => "long",
+            Kind::Branching => "branching",
+            Kind::Wide => "wide",
             Kind::Faulty => "faulty",
             Kind::Damaged => "damaged",
             Kind::Noise => "noise",
@@ -47,7 +62,7 @@ impl Kind {
 
     /// Is every input of this kind an accepted form?
     pub fn is_accepted(self) -> bool {
-        matches!(self, Kind::Small | Kind::Crowding | Kind::Long)
+        !matches!(self, Kind::Faulty | Kind::Damaged | Kind::Noise | Kind::Limit)
     }
 }
 
@@ -55,7 +70,11 @@ impl Kind {
 pub fn generate(kind: Kind, seed: u64) -> Vec<u8> {
     let random = &mut Random::new(seed);
     match kind {
-        Kind::Small | Kind::Crowding | Kind::Long => accepted_form(random, kind),
+        Kind::Small => accepted_form(random, small_parts),
+        Kind::Crowding => accepted_form(random, crowding_parts),
+        Kind::Long => accepted_form(random, long_parts),
+        Kind::Branching => accepted_form(random, branching_parts),
+        Kind::Wide => accepted_form(random, wide_parts),
         Kind::Faulty => faulty(random),
         Kind::Damaged => damaged(random),
         Kind::Noise => noise(random),
@@ -63,12 +82,13 @@ pub fn generate(kind: Kind, seed: u64) -> Vec<u8> {
     }
 }
 
-/// What a driver compares at this place of its run, of all kinds: a kind and a seed of its own.
+/// What a driver compares at this place of its run, of all kinds but the wide: a kind and a seed of its own.
 pub fn mixed(seed: u64, place: u64) -> (Kind, u64) {
     let shares = [
         (Kind::Small, 35),
         (Kind::Crowding, 4),
-        (Kind::Long, 10),
+        (Kind::Long, 9),
+        (Kind::Branching, 1),
         (Kind::Faulty, 22),
         (Kind::Damaged, 18),
         (Kind::Noise, 6),
@@ -79,7 +99,30 @@ pub fn mixed(seed: u64, place: u64) -> (Kind, u64) {
 
 /// The same of accepted forms only.
 pub fn mixed_accepted(seed: u64, place: u64) -> (Kind, u64) {
-    drawn(&[(Kind::Small, 75), (Kind::Crowding, 10), (Kind::Long, 15)], seed, place)
+    drawn(&[(Kind::Small, 74), (Kind::Crowding, 10), (Kind::Long, 14), (Kind::Branching, 2)], seed, place)
+}
+
+/// The same with ten small forms in thirteen, one crowding, one long or branching and one of all kinds.
+pub fn mostly_small(seed: u64, place: u64) -> (Kind, u64) {
+    match place % 13 {
+        0..=9 => drawn(&[(Kind::Small, 1)], seed, place),
+        10 => drawn(&[(Kind::Crowding, 1)], seed, place),
+        11 => drawn(&[(Kind::Long, 1), (Kind::Branching, 1)], seed, place),
+        _ => mixed(seed, place),
+    }
+}
+
+/// Mostly forms of 10 to 24 blocks with many branches, and some of the other kinds.
+pub fn mostly_wide(seed: u64, place: u64) -> (Kind, u64) {
+    let shares = [
+        (Kind::Wide, 60),
+        (Kind::Branching, 10),
+        (Kind::Crowding, 10),
+        (Kind::Long, 10),
+        (Kind::Damaged, 5),
+        (Kind::Limit, 5),
+    ];
+    drawn(&shares, seed, place)
 }
 
 fn drawn(shares: &[(Kind, usize)], seed: u64, place: u64) -> (Kind, u64) {
@@ -214,14 +257,9 @@ fn two_targets(random: &mut Random, block: usize, block_count: usize) -> (u8, u8
     (jump, fall)
 }
 
-fn accepted_form(random: &mut Random, kind: Kind) -> Vec<u8> {
+fn accepted_form(random: &mut Random, parts: fn(&mut Random) -> Parts) -> Vec<u8> {
     let counter = body_counter(random);
-    let parts = match kind {
-        Kind::Crowding => crowding_parts(random),
-        Kind::Long => long_parts(random),
-        _ => small_parts(random),
-    };
-    parts_bytes(&counter, &parts)
+    parts_bytes(&counter, &parts(random))
 }
 
 /// 1 to 9 blocks with all endings by chance, so that some blocks are not reached and some targets are equal.
@@ -283,16 +321,54 @@ fn crowding_parts(random: &mut Random) -> Parts {
     parts
 }
 
-/// A chain of blocks, with a few branches that part and soon meet again.
+/// What a chain of blocks with branches is made to be.
+struct Chain {
+    block_count: usize,
+    branches: usize,
+    /// One to so many variables.
+    most_variables: usize,
+    /// A block goes on to the next, or so many times in a hundred to one of the two after it.
+    skips: usize,
+    /// Does block 0 set every variable?
+    sets: bool,
+}
+
 fn long_parts(random: &mut Random) -> Parts {
-    let block_count = if random.percent(10) { 25 + random.below(40) } else { 10 + random.below(15) };
-    let taste = Taste::drawn(random, 3);
-    let mut branches_left = 2 + random.below(6);
+    let block_count = match random.below(20) {
+        0 => 24,
+        1 => 25,
+        2 => 25 + random.below(40),
+        _ => 10 + random.below(15),
+    };
+    let branches = 2 + random.below(6);
+    chain_with_branches(random, Chain { block_count, branches, most_variables: 3, skips: 50, sets: false })
+}
+
+fn branching_parts(random: &mut Random) -> Parts {
+    let (block_count, branches) = (10 + random.below(15), 5 + random.below(5));
+    let sets = random.percent(70);
+    chain_with_branches(random, Chain { block_count, branches, most_variables: 9, skips: 30, sets })
+}
+
+fn wide_parts(random: &mut Random) -> Parts {
+    let block_count = 18 + random.below(7);
+    let branches = block_count - 1 - random.below(3);
+    let skips = random.pick(&[0, 5, 15, 25]);
+    chain_with_branches(random, Chain { block_count, branches, most_variables: 6, skips, sets: false })
+}
+
+fn chain_with_branches(random: &mut Random, chain: Chain) -> Parts {
+    let Chain { block_count, branches, most_variables, skips, sets } = chain;
+    let taste = Taste::drawn(random, most_variables);
+    let mut branches_left = branches;
     let mut parts = Parts::new();
     for block in 0..block_count - 1 {
         let blocks_left = block_count - 1 - block;
-        let near = |random: &mut Random| (block + 1 + random.below(blocks_left.min(3))) as u8;
-        let is_branch = branches_left > 0 && random.below(blocks_left) < 2 * branches_left;
+        let near = |random: &mut Random| {
+            let skipped = if random.percent(skips) { 1 + random.below(2) } else { 0 };
+            (block + 1 + skipped).min(block_count - 1) as u8
+        };
+        let is_branch = random.below(blocks_left) < branches_left;
         let ending = if is_branch {
             branches_left -= 1;
             let (jump, fall) = (near(random), near(random));
@@ -302,20 +378,27 @@ fn long_parts(random: &mut Random) -> Parts {
                 taste.test(random, jump, fall)
             }
         } else {
-            let next = if random.percent(85) { block as u8 + 1 } else { near(random) };
-            Block::go(taste.cost(random), next)
+            Block::go(taste.cost(random), near(random))
         };
-        let effects = if random.percent(25) { taste.effects(random) } else { vec![] };
+        let effects = if random.percent(if sets { 10 } else { 25 }) { taste.effects(random) } else { vec![] };
         parts.push((ending, effects));
     }
     parts.push((Block::end(taste.cost(random)), vec![]));
+    if sets {
+        parts[0].1 =
+            taste.variables.iter().map(|variable| Effect::constant(*variable, taste.centres[0])).collect();
+    }
     parts
 }
 
 /// An accepted form of any kind that changes are then made to: mostly a small one.
 fn form_to_change(random: &mut Random) -> Vec<u8> {
-    let kind = random.pick(&[Kind::Small, Kind::Small, Kind::Small, Kind::Crowding, Kind::Long]);
-    accepted_form(random, kind)
+    let parts: fn(&mut Random) -> Parts = match random.below(5) {
+        0 => crowding_parts,
+        1 => long_parts,
+        _ => small_parts,
+    };
+    accepted_form(random, parts)
 }
 
 /// The records of an accepted form.

@@ -16,8 +16,9 @@
 //! Listing takes time that doubles with each branch. It is meant for small bodies; `ways::ways_to_list` says
 //! beforehand how much there is, and `calls` gives no answer (rather than a guess) past `calls::MOST_WAYS`.
 //!
-//! `generate` makes inputs from a seed, `example` has the trainer's body, `tally` counts what passed, and `driver` and
-//! `served` are what the comparison drivers share.
+//! `generate` makes inputs from a seed, `example` has the trainer's body, `tally` counts what passed. The comparison
+//! drivers share `served` and `memory`, the questions that the proved code is asked; `second`, what the second program
+//! answers to the same; and `driver`, the run.
 
 pub mod calls;
 pub mod conflict;
@@ -26,10 +27,12 @@ pub mod driver;
 pub mod example;
 pub mod form;
 pub mod generate;
+pub mod memory;
 pub mod random;
 pub mod report;
 pub mod routes;
 pub mod rows;
+pub mod second;
 pub mod served;
 pub mod tally;
 pub mod ways;

@@ -7,9 +7,11 @@ use Rattle.form.specs.declared.Written.{Written}
 use Rattle.form.specs.declared.Written.the-variants.{Bytes, Unwritten}
 use Rattle.form.specs.Form.{when, judge, bodyOf, lay}
 use Rattle.form.specs.Answer.{accepted, numberOf, placeOf, written, heldAfter}
-use Rattle.counter.specs.Answer.{Values}
+use Rattle.counter.specs.Answer as Counter
+use Rattle.routes.specs.WalkAnswer as Walk
 use Rattle.desk.specs.declared.CountAnswer.{CountAnswer}
 use Rattle.desk.specs.declared.FormAnswer.{FormAnswer}
+use Rattle.desk.specs.declared.WalkNumbers.{WalkNumbers}
 
 abbrev pub formAnswer : ℕ → ℕ → FormAnswer
 formAnswer number place = record { number = number; place = place }
@@ -31,5 +33,17 @@ abbrev pub rewriteHeld : List ℕ → List ℕ → List ℕ
 rewriteHeld form out = when (accepted (judge form)) (heldAfter (written (bodyOf form) (length out)) (lay (bodyOf form)) out) out
 
 -- The counter's answer, as the counter's own definition has it
-abbrev pub countValues : CountAnswer → Values
+abbrev pub countValues : CountAnswer → Counter.Values
 countValues answer = record { number = answer .number; place = answer .place; iterations = answer .iterations }
+
+-- The full walk's, as its own definition has it
+abbrev pub walkValues : WalkNumbers → Walk.Values
+walkValues answer =
+    record {
+      number = answer .number;
+      place = answer .place;
+      iterations = answer .iterations;
+      weight = answer .weight;
+      bound = answer .bound;
+      walked = answer .walked;
+    }

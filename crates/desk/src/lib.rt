@@ -4,10 +4,12 @@ ghost use mathlib.Core.Path.{_≡_};
 ghost use lib.ListN.{length};
 ghost use Rattle.form.specs.Form.{judge};
 ghost use Rattle.counter.specs.Answer.{Owed};
-ghost use Rattle.desk.specs.Answer.{countValues, formAnswer, verdictAnswer, writtenAnswer, rewriteAnswer, rewriteHeld};
+ghost use Rattle.routes.specs.WalkAnswer.{said, WalkOwed};
+ghost use Rattle.desk.specs.Answer.{countValues, walkValues, formAnswer, verdictAnswer, writtenAnswer, rewriteAnswer, rewriteHeld};
 use counter::Counted;
 use form::Verdict;
 use form::Written;
+use routes::walk::WalkAnswer;
 
 // A refusal's number and place; number 0: none.
 #[repr(C)]
@@ -22,6 +24,17 @@ pub struct CountAnswer {
     pub number: u64,
     pub place: u64,
     pub iterations: u64,
+}
+
+// The numbers of the full walk.
+#[repr(C)]
+pub struct WalkNumbers {
+    pub number: u64,
+    pub place: u64,
+    pub iterations: u64,
+    pub weight: u64,
+    pub bound: u64,
+    pub walked: u64,
 }
 
 fn answer(number: u64, place: u64) -> FormAnswer
@@ -87,4 +100,40 @@ pub extern "C" fn somniaret_rewrite(bytes: &[u8], out: &mut [u8]) -> FormAnswer
     }
     let body = reading.body;
     of_written(form::write(body, out))
+}
+
+fn of_walk(walk: WalkAnswer) -> WalkNumbers
+    ensures { λ r. ⌜ walkValues r ≡ said walk ⌝ }
+{
+    match walk {
+        WalkAnswer::Walked {
+            iterations,
+            weight,
+            bound,
+            walked,
+        } => WalkNumbers {
+            number: 0,
+            place: 0,
+            iterations,
+            weight,
+            bound,
+            walked,
+        },
+        WalkAnswer::Refused { number, place } => WalkNumbers {
+            number: number as u64,
+            place: place as u64,
+            iterations: 0,
+            weight: 0,
+            bound: 0,
+            walked: 0,
+        },
+    }
+}
+
+// The full walk of a form with a budget: its numbers, and the route's bytes in the lent ones; or a refusal, which changes none.
+#[no_mangle]
+pub extern "C" fn somniaret_walk(bytes: &[u8], budget: u32, route: &mut [u8]) -> WalkNumbers
+    ensures { λ r. ⌜ WalkOwed (now (bytes .entry)) budget (now (route .entry)) (walkValues r, now (route .exit)) ⌝ }
+{
+    of_walk(routes::walk::walk(bytes, budget, route))
 }

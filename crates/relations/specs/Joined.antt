@@ -142,11 +142,11 @@ module _ (body : Body) where
   unfolding crossed
   crossed-none b o e d = rw d
 
-  jump-none : (b : ℕ) (e : Edge) → opposes body (b, 1) e ≡ false → byJump b e ≡ false
+  pub jump-none : (b : ℕ) (e : Edge) → opposes body (b, 1) e ≡ false → byJump b e ≡ false
   unfolding byJump
   jump-none b e d = rw d
 
-  fall-none : (b : ℕ) (e : Edge) → opposes body (b, 2) e ≡ false → byFall b e ≡ false
+  pub fall-none : (b : ℕ) (e : Edge) → opposes body (b, 2) e ≡ false → byFall b e ≡ false
   unfolding byFall
   fall-none b e d = rw d
 

@@ -25,7 +25,7 @@ use Rattle.roundtrip.specs.Acceptance.{refused}
 use Rattle.roundtrip.specs.Sound.{well-formed, sound}
 use Rattle.routes.specs.Plan.{Planned}
 use Rattle.routes.specs.WalkTerms.{PlanOf}
-use Rattle.routes.specs.Owed.{CountOf, Owed}
+use Rattle.routes.specs.Owed.{Owed}
 use Rattle.routes.specs.Owed.Owed.{no-form, no-count, counted}
 
 -- ---- the body

@@ -1,236 +1,265 @@
--- The plan laid out column by column: a column written leaves the others, and the columns of a body's sets are its plan. Rests on Plan and on conflict's Sets.
-use mathlib.Core.Path.{_≡_, refl, sym, ap, subst, _∙_}
-use mathlib.Core.Logic.{inl, inr}
+-- A list whose rows are those of a sound body's sets is its plan. Rests on Plan, and on conflict's Sets, whose words the rows are.
 use mathlib.Core.Bool.{Bool, true, false, cond, _&&_}
 use mathlib.Core.List.{List, [], _∷_, _++_}
-use Prim.Native.Nat.{ℕ, zero, suc, _+_, _*_, _<_, _≤_}
-use native.Mathlib.Nat.{lt-of-lt-of-le}
+use mathlib.Core.Logic.{inl, inr, ⊎-elim}
+use mathlib.Core.Path.{_≡_, refl, ap, sym, subst, _∙_}
+use Prim.Native.Nat.{ℕ, zero, suc, _+_, _*_, _≤_, _<_}
 use native.Mathlib.Omega.{arith}
-use borrow.Author.Tests.{eqb-true, eqb-false, lt-ltb}
-use lib.Dec.{eqb, ltb}
-use lib.ListN.{length, getD, take, set, length-set, length-take}
-use lib.Seq.{getD-set-same, getD-set-other, getD-take}
-use Rattle.laws.specs.Terms.{Mem, bit}
-use Rattle.laws.specs.Tests.{split, is-false, and-out}
-use Rattle.laws.specs.Lists.{anyOf-out}
-use Rattle.form.specs.declared.Body.{Body}
+use borrow.Author.Tests.{lt-ltb}
+use lib.Dec.{ltb, eqb}
+use lib.ListN.{length, getD, take, drop, length-append, List·getD-append}
+use lib.Seq.{getD-take, length-take-le, paste, getD-append-add}
+use Rattle.laws.specs.Terms.{Mem, bit, setOf}
+use Rattle.laws.specs.Tests.{split, clash, and-out}
+use Rattle.laws.specs.Sets.{bit-setOf, bit-setOf-beyond, below-or-not}
 use Rattle.form.specs.declared.Block.{Block}
-use Rattle.form.specs.Conflict.{noBlock, block, exitsBy, exits, isTest, condition, touches, opposes, denies, listed, conflicts, Sound}
+use Rattle.form.specs.declared.Body.{Body}
+use Rattle.form.specs.Conflict.{Edge, Pair, block, exitsBy, exits, isTest, condition, touches, opposes, denies, listed, conflicts, same, secondOf, Holds, Sound, noBlock}
 use Rattle.relations.specs.Blocks.{beyond}
-use Rattle.relations.specs.Joined.{no-test, denies-test, opposes-test}
 use Rattle.relations.specs.ConflictList.{conflicts-hold}
-use Rattle.words.specs.Tabled.{tabled, rows}
-use Rattle.words.specs.Filled.{Told, tabled-at, rows-bit}
+use Rattle.relations.specs.Listed.{listed-out}
+use Rattle.form.specs.Form.{when}
 use Rattle.conflict.specs.declared.Sets.{Sets}
 use Rattle.conflict.specs.Sets.{wayTo, listedBelow, setsOf}
+use Rattle.words.specs.Tabled.{tabled, rows}
+use Rattle.words.specs.Filled.{tabled-at}
 use Rattle.routes.specs.Plan.{wordAt, exitBy, Planned}
 
--- word w of the first n blocks is the row's, and every other word is what it was
-pub record Column (before : List ℕ) (w : ℕ) (row : List ℕ) (n : ℕ) (plan : List ℕ) : Type 0 where
-  pub size : length plan ≡ 1024
-  pub at : (b : ℕ) → b < n → wordAt plan b w ≡ getD row b 0
-  pub others : (b v : ℕ) → b < 64 → v < 16 → (v ≡ w → ⊥) → wordAt plan b v ≡ wordAt before b v
+-- row b of a body's plan
+abbrev pub rowAt : Body → ℕ → List ℕ
+rowAt body b =
+    wayTo 1 (exits body b)
+    ∷ wayTo 2 (exits body b)
+    ∷ block body b .cost
+    ∷ setOf 64 (λ k. isTest body k && touches body b (block body k .variable))
+    ∷ setOf 64 (λ k. denies body b (k, 1))
+    ∷ setOf 64 (λ k. denies body b (k, 2))
+    ∷ setOf 64 (λ k. opposes body (b, 1) (k, 1))
+    ∷ setOf 64 (λ k. opposes body (b, 1) (k, 2))
+    ∷ setOf 64 (λ k. opposes body (b, 2) (k, 1))
+    ∷ setOf 64 (λ k. opposes body (b, 2) (k, 2))
+    ∷ setOf 64 (λ k. listedBelow body b (k, 1))
+    ∷ setOf 64 (λ k. listedBelow body b (k, 2))
+    ∷ cond (isTest body b) 1 0
+    ∷ 0 ∷ 0 ∷ 0 ∷ []
 
-pub column-none : (before : List ℕ) (w : ℕ) (row : List ℕ) → length before ≡ 1024 → Column before w row 0 before
-column-none before w row size = record { size = size; at = λ b h. absurd (never b h); others = λ b v h l d. refl }
+-- the same from a body's sets and the block itself, with the three words that nothing uses
+abbrev pub rowFrom : Sets → Block → ℕ → List ℕ
+rowFrom sets k b =
+    getD (sets .targets .jump) b 0
+    ∷ getD (sets .targets .fall) b 0
+    ∷ k .cost
+    ∷ getD (sets .touched) b 0
+    ∷ getD (sets .denied .jump) b 0
+    ∷ getD (sets .denied .fall) b 0
+    ∷ getD (sets .jumping .jump) b 0
+    ∷ getD (sets .jumping .fall) b 0
+    ∷ getD (sets .falling .jump) b 0
+    ∷ getD (sets .falling .fall) b 0
+    ∷ getD (sets .listed .jump) b 0
+    ∷ getD (sets .listed .fall) b 0
+    ∷ when (eqb (k .ending) 3) 1 0
+    ∷ 0 ∷ 0 ∷ 0 ∷ []
+
+-- ---- rows in the plan
+
+-- the words of the rows below b stand in the plan
+abbrev pub Rows : (ℕ → List ℕ) → ℕ → List ℕ → Type 0
+Rows row b plan = (c w : ℕ) → c < b → w < 16 → wordAt plan c w ≡ getD (row c) w 0
+
+paste-before : (d s : List ℕ) (at n i : ℕ) → i < at → at ≤ length d → getD (paste d at s n) i 0 ≡ getD d i 0
+paste-before d s at n i h l =
+    let here : i < length (take at d) = rw (length-take-le at d l) h in
+    List·getD-append (take at d ++ take n s) (drop (at + n) d) 0 i (simp length-append (omega arith))
+    ∙ (List·getD-append (take at d) (take n s) 0 i here ∙ getD-take at d i 0 h)
+
+paste-in : (d s : List ℕ) (at n i : ℕ) → i < n → n ≤ length s → at ≤ length d → getD (paste d at s n) (at + i) 0 ≡ getD s i 0
+paste-in d s at n i h l m =
+    let size = length-take-le at d m in
+    let some = length-take-le n s l in
+    List·getD-append (take at d ++ take n s) (drop (at + n) d) 0 (at + i) (simp length-append (omega (arith, size, some)))
+    ∙ (subst (λ (k : ℕ). getD (take at d ++ take n s) (k + i) 0 ≡ getD (take n s) i 0) size (getD-append-add (take at d) (take n s) i 0)
+    ∙ getD-take n s i 0 h)
+
+pub rows-more :
+    (row : ℕ → List ℕ) (b : ℕ) (plan words : List ℕ) → length words ≡ 16 → 16 * b + 16 ≤ length plan → words ≡ row b → Rows row b plan
+    → Rows row (b + 1) (paste plan (16 * b) words 16)
+rows-more row b plan words size room e read c w h l = ⊎-elim below here (below-or-not c b)
   where
-    never : (b : ℕ) → b < 0 → ⊥
-    never b h = omega arith
+    below : c < b → wordAt (paste plan (16 * b) words 16) c w ≡ getD (row c) w 0
+    below i = paste-before plan words (16 * b) 16 (16 * c + w) (omega arith) (omega arith) ∙ read c w i l
 
-pub column-more : (before : List ℕ) (w : ℕ) (row : List ℕ) (n : ℕ) (plan : List ℕ) → w < 16 → n < 64 → Column before w row n plan → Column before w row (n + 1) (set plan (16 * n + w) (getD row n 0))
-column-more before w row n plan l h c = record { size = length-set plan (16 * n + w) (getD row n 0) ∙ c .size; at = at; others = others }
-  where
-    room : 16 * n + w < length plan
-    room = omega (arith, c .size)
+    here : b ≤ c → wordAt (paste plan (16 * b) words 16) c w ≡ getD (row c) w 0
+    here i =
+        let same : c ≡ b = omega arith in
+        rw same (paste-in plan words (16 * b) 16 w l (omega arith) (omega arith) ∙ ap (λ (x : List ℕ). getD x w 0) e)
 
-    at : (b : ℕ) → b < n + 1 → wordAt (set plan (16 * n + w) (getD row n 0)) b w ≡ getD row b 0
-    at b k = split (eqb b n)
-        (λ q. let s = eqb-true b n q in rw (s, getD-set-same plan (16 * n + w) (getD row n 0) 0 room))
-        (λ q. let d = eqb-false b n q in rw (getD-set-other plan (16 * n + w) (16 * b + w) (getD row n 0) 0 (λ e. d (omega arith))) (c .at b (omega arith)))
+-- ---- the rows of a body's sets
 
-    others : (b v : ℕ) → b < 64 → v < 16 → (v ≡ w → ⊥) → wordAt (set plan (16 * n + w) (getD row n 0)) b v ≡ wordAt before b v
-    others b v i k d = rw (getD-set-other plan (16 * n + w) (16 * b + v) (getD row n 0) 0 (λ e. d (omega arith))) (c .others b v i k d)
+module _ (body : Body) (b : ℕ) (h : b < 64) where
+  at : (f : ℕ → ℕ) → getD (tabled 64 f) b 0 ≡ f b
+  at f = tabled-at f 64 b 0 h
 
-pub column-end : (before : List ℕ) (w : ℕ) (row : List ℕ) (n : ℕ) (plan : List ℕ) → n ≤ 64 → 64 ≤ n → Column before w row n plan → Column before w row 64 plan
-column-end before w row n plan h l c = let e : n ≡ 64 = omega arith in subst (λ m. Column before w row m plan) e c
+  on : (f : ℕ → ℕ → Bool) → getD (rows f) b 0 ≡ setOf 64 (f b)
+  unfolding rows
+  on f = at (λ c. setOf 64 (f c))
 
--- ---- the first k columns stand in the plan
-
-pub record Columns (rows : List (List ℕ)) (k : ℕ) (plan : List ℕ) : Type 0 where
-  pub size : length plan ≡ 1024
-  pub word : (b w : ℕ) → b < 64 → w < k → wordAt plan b w ≡ getD (getD rows w []) b 0
-
-module _ (rows : List (List ℕ)) where
-  pub no-columns : (plan : List ℕ) → length plan ≡ 1024 → Columns rows 0 plan
-  no-columns plan size = record { size = size; word = λ b w h l. absurd (never w l) }
+  test-is : (k : Block) → k ≡ block body b → _≡_ {A = ℕ} (when (eqb (k .ending) 3) 1 0) (cond (isTest body b) 1 0)
+  unfolding isTest
+  test-is k e = ap {B = ℕ} (λ (x : Block). when (eqb (x .ending) 3) 1 0) e ∙ alike (eqb (block body b .ending) 3)
     where
-      never : (w : ℕ) → w < 0 → ⊥
-      never w l = omega arith
+      alike : (t : Bool) → _≡_ {A = ℕ} (when t 1 0) (cond t 1 0)
+      alike true = refl
+      alike false = refl
 
-  pub more-columns : (k : ℕ) {plan next : List ℕ} → k < 16 → Column plan k (getD rows k []) 64 next → Columns rows k plan → Columns rows (suc k) next
-  more-columns k {plan} {next} h c s = record { size = c .size; word = word }
-    where
-      word : (b w : ℕ) → b < 64 → w < suc k → wordAt next b w ≡ getD (getD rows w []) b 0
-      word b w i l = split (eqb w k)
-          (λ q. let e = eqb-true w k q in rw e (c .at b i))
-          (λ q. let d = eqb-false w k q in c .others b w i (omega arith) d ∙ s .word b w i (omega arith))
+  pub row-same : (k : Block) → k ≡ block body b → rowFrom (setsOf body) k b ≡ rowAt body b
+  unfolding setsOf
+  row-same k e =
+      λ i.
+      at (λ c. wayTo 1 (exits body c)) i
+      ∷ at (λ c. wayTo 2 (exits body c)) i
+      ∷ e i .cost
+      ∷ on (λ c j. isTest body j && touches body c (block body j .variable)) i
+      ∷ on (λ c j. denies body c (j, 1)) i
+      ∷ on (λ c j. denies body c (j, 2)) i
+      ∷ on (λ c j. opposes body (c, 1) (j, 1)) i
+      ∷ on (λ c j. opposes body (c, 1) (j, 2)) i
+      ∷ on (λ c j. opposes body (c, 2) (j, 1)) i
+      ∷ on (λ c j. opposes body (c, 2) (j, 2)) i
+      ∷ on (λ c j. listedBelow body c (j, 1)) i
+      ∷ on (λ c j. listedBelow body c (j, 2)) i
+      ∷ test-is k e i
+      ∷ 0 ∷ 0 ∷ 0 ∷ []
 
--- ---- the sets of a sound body
+-- ---- the ways
+
+-- what the two targets stand for are the exits
+exits-back :
+    (ending jump fall : ℕ) → ((o : ℕ × ℕ) → Mem o (exitsBy ending jump fall) → o .1 < 64)
+    → exitsBy ending jump fall ≡ exitBy 1 (wayTo 1 (exitsBy ending jump fall)) ++ exitBy 2 (wayTo 2 (exitsBy ending jump fall))
+exits-back zero jump fall h = refl
+exits-back (suc zero) jump fall h = rw (lt-ltb jump 64 (h (1, jump) (inl refl)))
+exits-back (suc (suc zero)) jump fall h = rw (lt-ltb jump 64 (h (1, jump) (inl refl)), lt-ltb fall 64 (h (2, fall) (inr (inl refl))))
+exits-back (suc (suc (suc zero))) jump fall h =
+    rw (lt-ltb jump 64 (h (1, jump) (inl refl)), lt-ltb fall 64 (h (2, fall) (inr (inl refl))))
+exits-back (suc (suc (suc (suc n)))) jump fall h = refl
+
+-- ---- nothing past the last block
+
+take-short : (n : ℕ) (l : List Block) → length (take n l) ≤ n
+take-short zero l = omega arith
+take-short (suc n) [] = omega arith
+take-short (suc n) (x ∷ l) = omega (arith, take-short n l)
 
 module _ (body : Body) (g : Sound body) where
-  -- what stands past the last block is no test and no second of the list
-  untested : (k : ℕ) → body .count ≤ k → isTest body k ≡ false
-  unfolding block
-  untested k h = no-test body k (beyond (take (body .count) (body .blocks)) k noBlock (omega (arith, length-take (body .count) (body .blocks))))
+  past : (k : ℕ) → body .count ≤ k → isTest body k ≡ false
+  unfolding isTest block
+  past k h = rw (beyond (take (body .count) (body .blocks)) k noBlock (omega (arith, take-short (body .count) (body .blocks))))
 
-  undenied : (b k w : ℕ) → body .count ≤ k → denies body b (k, w) ≡ false
-  undenied b k w h = denies-test body b (k, w) (untested k h)
+  denies-past : (b k w : ℕ) → body .count ≤ k → denies body b (k, w) ≡ false
+  unfolding denies
+  denies-past b k w h = rw (past k h)
 
-  unopposed : (b v k w : ℕ) → body .count ≤ k → opposes body (b, v) (k, w) ≡ false
-  unopposed b v k w h = opposes-test body (b, v) (k, w) (untested k h)
+  opposes-past : (x : Edge) (k w : ℕ) → body .count ≤ k → opposes body x (k, w) ≡ false
+  unfolding opposes
+  opposes-past x k w h = rw (past k h) (none (isTest body (x .0)))
+    where
+      none : (t : Bool) → (t && false && Rattle.form.specs.Conflict.contradict (condition body x) (condition body (k, w))) ≡ false
+      none true = refl
+      none false = refl
 
-  unlisted : (b k w : ℕ) → body .count ≤ k → listedBelow body b (k, w) ≡ false
-  unfolding listedBelow
-  unlisted b k w h = is-false _ (λ t.
-      let (p, m, q) = anyOf-out (λ p. (eqb (p .second) k && eqb (p .outcome) w) && ltb (p .first) b) (conflicts body) t in
-      let (o, l) = conflicts-hold body (g .onward) p .0 m .0 in
-      let e = eqb-true (p .second) k (and-out (eqb (p .second) k) _ (and-out (eqb (p .second) k && eqb (p .outcome) w) _ q .0) .0) in
-      omega (arith, g .onward .above (p .second) (p .outcome, o) l, g .onward .inside (p .second) (p .outcome, o) l))
+  no-exit : (k : ℕ) → body .count ≤ k → exits body k ≡ []
+  unfolding exits block
+  no-exit k h = rw (beyond (take (body .count) (body .blocks)) k noBlock (omega (arith, take-short (body .count) (body .blocks))))
 
-  -- the exits from the targets of the two ways
-  two-exits : (ending jump fall : ℕ) → ((o : ℕ × ℕ) → Mem o (exitsBy ending jump fall) → o .1 < 64)
-      → exitsBy ending jump fall ≡ exitBy 1 (wayTo 1 (exitsBy ending jump fall)) ++ exitBy 2 (wayTo 2 (exitsBy ending jump fall))
-  two-exits zero jump fall h = refl
-  two-exits (suc zero) jump fall h = rw (lt-ltb jump 64 (h (1, jump) (inl refl)))
-  two-exits (suc (suc zero)) jump fall h = rw (lt-ltb jump 64 (h (1, jump) (inl refl)), lt-ltb fall 64 (h (2, fall) (inr (inl refl))))
-  two-exits (suc (suc (suc zero))) jump fall h = rw (lt-ltb jump 64 (h (1, jump) (inl refl)), lt-ltb fall 64 (h (2, fall) (inr (inl refl))))
-  two-exits (suc (suc (suc (suc n)))) jump fall h = refl
+  below-is : (b : ℕ) (e : Edge) → listedBelow body b e ≡ listed (conflicts body) b e
+  unfolding listedBelow listed
+  below-is b e = refl
 
-  -- a block of the body
-  block-at : (b : ℕ) → b < body .count → getD (body .blocks) b noBlock ≡ block body b
-  unfolding block
-  block-at b h = sym (getD-take (body .count) (body .blocks) b noBlock h)
+  listed-past : (b k w : ℕ) → body .count ≤ k → listed (conflicts body) b (k, w) ≡ false
+  listed-past b k w h = split (listed (conflicts body) b (k, w)) (λ t. absurd (never t)) (λ f. f)
+    where
+      never : listed (conflicts body) b (k, w) ≡ true → ⊥
+      never t =
+          let (p, m, s, l) = listed-out (conflicts body) b (k, w) t in
+          let (u, e) = conflicts-hold body (g .onward) p .0 m .0 in
+          subst (λ (os : List (ℕ × ℕ)). Mem (p .outcome, u) os) (ap (exits body) (ap (λ (x : Edge). x .0) s) ∙ no-exit k h) e
 
--- ---- the nine sets of a block
+  below-past : (b k w : ℕ) → body .count ≤ k → listedBelow body b (k, w) ≡ false
+  below-past b k w h = below-is b (k, w) ∙ listed-past b k w h
 
-nine : (P : ℕ → Type 0) → P 3 → P 4 → P 5 → P 6 → P 7 → P 8 → P 9 → P 10 → P 11 → (w : ℕ) → 2 < w → w < 12 → P w
-nine P c d e f g h i j k zero l m = absurd (omega arith)
-nine P c d e f g h i j k (suc zero) l m = absurd (omega arith)
-nine P c d e f g h i j k (suc (suc zero)) l m = absurd (omega arith)
-nine P c d e f g h i j k (suc (suc (suc zero))) l m = c
-nine P c d e f g h i j k (suc (suc (suc (suc zero)))) l m = d
-nine P c d e f g h i j k (suc (suc (suc (suc (suc zero))))) l m = e
-nine P c d e f g h i j k (suc (suc (suc (suc (suc (suc zero)))))) l m = f
-nine P c d e f g h i j k (suc (suc (suc (suc (suc (suc (suc zero))))))) l m = g
-nine P c d e f g h i j k (suc (suc (suc (suc (suc (suc (suc (suc zero)))))))) l m = h
-nine P c d e f g h i j k (suc (suc (suc (suc (suc (suc (suc (suc (suc zero))))))))) l m = i
-nine P c d e f g h i j k (suc (suc (suc (suc (suc (suc (suc (suc (suc (suc zero)))))))))) l m = j
-nine P c d e f g h i j k (suc (suc (suc (suc (suc (suc (suc (suc (suc (suc (suc zero))))))))))) l m = k
-nine P c d e f g h i j k (suc (suc (suc (suc (suc (suc (suc (suc (suc (suc (suc (suc w)))))))))))) l m = absurd (omega arith)
+  touched-past : (b k : ℕ) → body .count ≤ k → (isTest body k && touches body b (block body k .variable)) ≡ false
+  touched-past b k h = rw (past k h)
 
--- ---- the columns of a body's sets are its plan
+  -- ---- the plan
 
-abbrev pub rowsOf : Sets → (to-jump to-fall costs marks : List ℕ) → List (List ℕ)
-rowsOf sets to-jump to-fall costs marks =
-    to-jump ∷ to-fall ∷ costs ∷ sets .touched ∷ sets .denied .jump ∷ sets .denied .fall ∷ sets .jumping .jump ∷ sets .jumping .fall ∷ sets .falling .jump ∷ sets .falling .fall
-    ∷ sets .listed .jump ∷ sets .listed .fall ∷ marks ∷ []
+  module _ (plan : List ℕ) (size : length plan ≡ 1024) (read : (b w : ℕ) → b < body .count → w < 16 → wordAt plan b w ≡ getD (rowAt body b) w 0) where
+    -- a word that is a set of blocks
+    within-word : (b w : ℕ) (f : ℕ → Bool) → b < body .count → w < 16 → getD (rowAt body b) w 0 ≡ setOf 64 f → (k : ℕ) → k < body .count → bit (wordAt plan b w) k ≡ f k
+    within-word b w f h l e k i = ap (λ (x : ℕ). bit x k) (read b w h l ∙ e) ∙ bit-setOf 64 f k (omega (arith, g .few))
 
-module _ (body : Body) (g : Sound body) (sets : Sets) (is : sets ≡ setsOf body) (to-jump to-fall costs marks plan : List ℕ)
-    (jumps-told : Told 0 (λ b x. x ≡ getD (sets .targets .jump) b 0) 64 64 to-jump) (falls-told : Told 0 (λ b x. x ≡ getD (sets .targets .fall) b 0) 64 64 to-fall)
-    (costs-told : Told 0 (λ b x. x ≡ getD (body .blocks) b noBlock .cost) 64 64 costs) (marks-told : Told 0 (λ b x. x ≡ cond (eqb (getD (body .blocks) b noBlock .ending) 3) 1 0) 64 64 marks)
-    (cols : Columns (rowsOf sets to-jump to-fall costs marks) 13 plan) where
-  inside : (b : ℕ) → b < body .count → b < 64
-  inside b h = omega (arith, g .few)
+    past-word : (b w : ℕ) (f : ℕ → Bool) → b < body .count → w < 16 → getD (rowAt body b) w 0 ≡ setOf 64 f
+        → ((k : ℕ) → body .count ≤ k → f k ≡ false) → (k : ℕ) → body .count ≤ k → bit (wordAt plan b w) k ≡ false
+    past-word b w f h l e none k i =
+        ap (λ (x : ℕ). bit x k) (read b w h l ∙ e) ∙ ⊎-elim (λ m. bit-setOf 64 f k m ∙ none k i) (λ m. bit-setOf-beyond 64 f k m) (below-or-not k 64)
 
-  -- a column that is the rows of a test that fails past the last block
-  set-word : (w : ℕ) → w < 13 → (f : ℕ → ℕ → Bool) → getD (rowsOf sets to-jump to-fall costs marks) w [] ≡ rows f → ((b k : ℕ) → body .count ≤ k → f b k ≡ false)
-      → (b k : ℕ) → b < body .count → bit (wordAt plan b w) k ≡ f b k
-  set-word w l f e past b k h =
-      ap (λ (x : ℕ). bit x k) (cols .word b w (inside b h) l ∙ ap (λ (r : List ℕ). getD r b 0) e)
-      ∙ rows-bit f (λ b k i. past b k (omega (arith, g .few))) b (inside b h) k
+    ways : (b : ℕ) → b < body .count → exits body b ≡ exitBy 1 (wordAt plan b 0) ++ exitBy 2 (wordAt plan b 1)
+    unfolding exits
+    ways b h =
+        rw (read b 0 h (omega arith), read b 1 h (omega arith))
+        (exits-back (block body b .ending) (block body b .jump) (block body b .fall) (λ o m. omega (arith, g .onward .inside b o m, g .few)))
 
-  touched-bit : (b k : ℕ) → b < body .count → bit (wordAt plan b 3) k ≡ (isTest body k && touches body b (block body k .variable))
-  unfolding setsOf
-  touched-bit = set-word 3 (omega arith) (λ b k. isTest body k && touches body b (block body k .variable)) (ap (λ (s : Sets). s .touched) is) (λ b k h. rw (untested body g k h))
+    touched : (b k : ℕ) → b < body .count → k < body .count → bit (wordAt plan b 3) k ≡ isTest body k && touches body b (condition body (k, 1) .variable)
+    unfolding condition
+    touched b k h i = within-word b 3 _ h (omega arith) refl k i
 
-  denied-jump : (b k : ℕ) → b < body .count → bit (wordAt plan b 4) k ≡ denies body b (k, 1)
-  unfolding setsOf
-  denied-jump = set-word 4 (omega arith) (λ b k. denies body b (k, 1)) (ap (λ (s : Sets). s .denied .jump) is) (λ b k. undenied body g b k 1)
+    -- each of the words 3 to 11 is such a set
+    within : (b w k : ℕ) → 2 < w → w < 12 → b < body .count → body .count ≤ k → bit (wordAt plan b w) k ≡ false
+    within b zero k low high h i = let z : ⊥ = omega arith in absurd z
+    within b (suc zero) k low high h i = let z : ⊥ = omega arith in absurd z
+    within b (suc (suc zero)) k low high h i = let z : ⊥ = omega arith in absurd z
+    within b (suc (suc (suc zero))) k low high h i = past-word b 3 _ h (omega arith) refl (touched-past b) k i
+    within b (suc (suc (suc (suc zero)))) k low high h i = past-word b 4 _ h (omega arith) refl (λ j. denies-past b j 1) k i
+    within b (suc (suc (suc (suc (suc zero))))) k low high h i = past-word b 5 _ h (omega arith) refl (λ j. denies-past b j 2) k i
+    within b (suc (suc (suc (suc (suc (suc zero)))))) k low high h i = past-word b 6 _ h (omega arith) refl (λ j. opposes-past (b, 1) j 1) k i
+    within b (suc (suc (suc (suc (suc (suc (suc zero))))))) k low high h i = past-word b 7 _ h (omega arith) refl (λ j. opposes-past (b, 1) j 2) k i
+    within b (suc (suc (suc (suc (suc (suc (suc (suc zero)))))))) k low high h i = past-word b 8 _ h (omega arith) refl (λ j. opposes-past (b, 2) j 1) k i
+    within b (suc (suc (suc (suc (suc (suc (suc (suc (suc zero))))))))) k low high h i = past-word b 9 _ h (omega arith) refl (λ j. opposes-past (b, 2) j 2) k i
+    within b (suc (suc (suc (suc (suc (suc (suc (suc (suc (suc zero)))))))))) k low high h i = past-word b 10 _ h (omega arith) refl (λ j. below-past b j 1) k i
+    within b (suc (suc (suc (suc (suc (suc (suc (suc (suc (suc (suc zero))))))))))) k low high h i = past-word b 11 _ h (omega arith) refl (λ j. below-past b j 2) k i
+    within b (suc (suc (suc (suc (suc (suc (suc (suc (suc (suc (suc (suc w)))))))))))) k low high h i = let z : ⊥ = omega arith in absurd z
 
-  denied-fall : (b k : ℕ) → b < body .count → bit (wordAt plan b 5) k ≡ denies body b (k, 2)
-  unfolding setsOf
-  denied-fall = set-word 5 (omega arith) (λ b k. denies body b (k, 2)) (ap (λ (s : Sets). s .denied .fall) is) (λ b k. undenied body g b k 2)
+    pub planned : Planned body plan
+    planned =
+        record {
+          size = size;
+          ways = ways;
+          costs = λ b h. read b 2 h (omega arith);
+          touched = touched;
+          denied-jumps = λ b k h i. within-word b 4 _ h (omega arith) refl k i;
+          denied-falls = λ b k h i. within-word b 5 _ h (omega arith) refl k i;
+          jump-jumps = λ b k h i. within-word b 6 _ h (omega arith) refl k i;
+          jump-falls = λ b k h i. within-word b 7 _ h (omega arith) refl k i;
+          fall-jumps = λ b k h i. within-word b 8 _ h (omega arith) refl k i;
+          fall-falls = λ b k h i. within-word b 9 _ h (omega arith) refl k i;
+          listed-jumps = λ b k h i. within-word b 10 _ h (omega arith) refl k i ∙ below-is b (k, 1);
+          listed-falls = λ b k h i. within-word b 11 _ h (omega arith) refl k i ∙ below-is b (k, 2);
+          within = within;
+          tests = λ b h. read b 12 h (omega arith);
+        }
 
-  jump-jump : (b k : ℕ) → b < body .count → bit (wordAt plan b 6) k ≡ opposes body (b, 1) (k, 1)
-  unfolding setsOf
-  jump-jump = set-word 6 (omega arith) (λ b k. opposes body (b, 1) (k, 1)) (ap (λ (s : Sets). s .jumping .jump) is) (λ b k. unopposed body g b 1 k 1)
+block-is : (body : Body) (b : ℕ) → b < body .count → getD (body .blocks) b noBlock ≡ block body b
+unfolding block
+block-is body b h = sym (getD-take (body .count) (body .blocks) b noBlock h)
 
-  jump-fall : (b k : ℕ) → b < body .count → bit (wordAt plan b 7) k ≡ opposes body (b, 1) (k, 2)
-  unfolding setsOf
-  jump-fall = set-word 7 (omega arith) (λ b k. opposes body (b, 1) (k, 2)) (ap (λ (s : Sets). s .jumping .fall) is) (λ b k. unopposed body g b 1 k 2)
-
-  fall-jump : (b k : ℕ) → b < body .count → bit (wordAt plan b 8) k ≡ opposes body (b, 2) (k, 1)
-  unfolding setsOf
-  fall-jump = set-word 8 (omega arith) (λ b k. opposes body (b, 2) (k, 1)) (ap (λ (s : Sets). s .falling .jump) is) (λ b k. unopposed body g b 2 k 1)
-
-  fall-fall : (b k : ℕ) → b < body .count → bit (wordAt plan b 9) k ≡ opposes body (b, 2) (k, 2)
-  unfolding setsOf
-  fall-fall = set-word 9 (omega arith) (λ b k. opposes body (b, 2) (k, 2)) (ap (λ (s : Sets). s .falling .fall) is) (λ b k. unopposed body g b 2 k 2)
-
-  listed-jump : (b k : ℕ) → b < body .count → bit (wordAt plan b 10) k ≡ listedBelow body b (k, 1)
-  unfolding setsOf
-  listed-jump = set-word 10 (omega arith) (λ b k. listedBelow body b (k, 1)) (ap (λ (s : Sets). s .listed .jump) is) (λ b k. unlisted body g b k 1)
-
-  listed-fall : (b k : ℕ) → b < body .count → bit (wordAt plan b 11) k ≡ listedBelow body b (k, 2)
-  unfolding setsOf
-  listed-fall = set-word 11 (omega arith) (λ b k. listedBelow body b (k, 2)) (ap (λ (s : Sets). s .listed .fall) is) (λ b k. unlisted body g b k 2)
-
-  past : (b w k : ℕ) → 2 < w → w < 12 → b < body .count → body .count ≤ k → bit (wordAt plan b w) k ≡ false
-  past b w k l m h i = nine (λ w. bit (wordAt plan b w) k ≡ false)
-      (touched-bit b k h ∙ rw (untested body g k i))
-      (denied-jump b k h ∙ undenied body g b k 1 i)
-      (denied-fall b k h ∙ undenied body g b k 2 i)
-      (jump-jump b k h ∙ unopposed body g b 1 k 1 i)
-      (jump-fall b k h ∙ unopposed body g b 1 k 2 i)
-      (fall-jump b k h ∙ unopposed body g b 2 k 1 i)
-      (fall-fall b k h ∙ unopposed body g b 2 k 2 i)
-      (listed-jump b k h ∙ unlisted body g b k 1 i)
-      (listed-fall b k h ∙ unlisted body g b k 2 i)
-      w l m
-
-  jump-to : (b : ℕ) → b < body .count → wordAt plan b 0 ≡ wayTo 1 (exits body b)
-  unfolding setsOf
-  jump-to b h =
-      cols .word b 0 (inside b h) (omega arith) ∙ jumps-told .at b (inside b h) ∙ ap (λ (s : Sets). getD (s .targets .jump) b 0) is
-      ∙ tabled-at (λ b. wayTo 1 (exits body b)) 64 b 0 (inside b h)
-
-  fall-to : (b : ℕ) → b < body .count → wordAt plan b 1 ≡ wayTo 2 (exits body b)
-  unfolding setsOf
-  fall-to b h =
-      cols .word b 1 (inside b h) (omega arith) ∙ falls-told .at b (inside b h) ∙ ap (λ (s : Sets). getD (s .targets .fall) b 0) is
-      ∙ tabled-at (λ b. wayTo 2 (exits body b)) 64 b 0 (inside b h)
-
-  both-ways : (b : ℕ) → b < body .count → exits body b ≡ exitBy 1 (wordAt plan b 0) ++ exitBy 2 (wordAt plan b 1)
-  unfolding exits
-  both-ways b h =
-      two-exits body g (block body b .ending) (block body b .jump) (block body b .fall) (λ o m. lt-of-lt-of-le (g .onward .inside b o m) (g .few))
-      ∙ λ i. exitBy 1 (sym (jump-to b h) i) ++ exitBy 2 (sym (fall-to b h) i)
-
-  pub planned : Planned body plan
-  unfolding condition listed listedBelow isTest
-  planned = record {
-    size = cols .size;
-    ways = both-ways;
-    costs = λ b h. cols .word b 2 (inside b h) (omega arith) ∙ costs-told .at b (inside b h) ∙ ap (λ (k : Block). k .cost) (block-at body g b h);
-    touched = λ b k h l. touched-bit b k h;
-    denied-jumps = λ b k h l. denied-jump b k h;
-    denied-falls = λ b k h l. denied-fall b k h;
-    jump-jumps = λ b k h l. jump-jump b k h;
-    jump-falls = λ b k h l. jump-fall b k h;
-    fall-jumps = λ b k h l. fall-jump b k h;
-    fall-falls = λ b k h l. fall-fall b k h;
-    listed-jumps = λ b k h l. listed-jump b k h;
-    listed-falls = λ b k h l. listed-fall b k h;
-    within = past;
-    tests = λ b h. cols .word b 12 (inside b h) (omega arith) ∙ marks-told .at b (inside b h) ∙ ap (λ (k : Block). cond (eqb (k .ending) 3) 1 0) (block-at body g b h);
-  }
+-- what the loop has at its end is the plan
+pub planned-rows :
+    (body : Body) (g : Sound body) (plan : List ℕ) → length plan ≡ 1024 → (sets : Sets) → sets ≡ setsOf body
+    → Rows (λ c. rowFrom sets (getD (body .blocks) c noBlock) c) 64 plan → Planned body plan
+planned-rows body g plan size sets e r =
+    planned body g plan size
+    (λ b w h l.
+    r b w (omega (arith, g .few)) l
+    ∙ ap (λ (x : List ℕ). getD x w 0)
+    (ap (λ (s : Sets). rowFrom s (getD (body .blocks) b noBlock) b) e
+    ∙ row-same body b (omega (arith, g .few)) (getD (body .blocks) b noBlock) (block-is body b h)))

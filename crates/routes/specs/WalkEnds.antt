@@ -4,7 +4,7 @@ use mathlib.Core.Bool.{Bool, true, false, not, cond}
 use mathlib.Core.Logic.{inl, inr}
 use mathlib.Core.List.{List, [], _∷_, _++_, map}
 use mathlib.Core.Option.{Option, none, some}
-use Prim.Native.Nat.{ℕ, _+_, _-_, _*_, _<_, _≤_}
+use Prim.Native.Nat.{ℕ, _*_, _<_, _≤_}
 use native.Mathlib.Nat.{le-trans, le-of-lt, lt-of-le-of-lt, mul-le-mul-left, mul-le-mul-right}
 use native.Mathlib.Omega.{arith}
 use borrow.Author.Tests.{le-ltb, lt-ltb}
@@ -16,7 +16,7 @@ use Rattle.laws.specs.Terms.{Mem, heavier}
 use Rattle.laws.specs.Tests.{clash}
 use Rattle.laws.specs.Lists.{map-out, only-out}
 use Rattle.form.specs.declared.Body.{Body}
-use Rattle.form.specs.Conflict.{block, Sound}
+use Rattle.form.specs.Conflict.{Sound}
 use Rattle.theory.specs.Route.{Path, lastBlock, conflict, paths, tails, routes, weight, weighed, stepCost, choose, best, bestRoute, routeBytes, walked}
 use Rattle.theory.specs.Walk.{within}
 use Rattle.theory.specs.Steps.{Leads}
@@ -33,7 +33,7 @@ use Rattle.routes.specs.declared.walk.WalkAnswer.{WalkAnswer}
 use Rattle.routes.specs.declared.walk.WalkAnswer.the-variants.{Refused}
 use Rattle.routes.specs.Owed.Owed.{no-form}
 use Rattle.routes.specs.Accepted.{CounterOwed, owed-refused, owed-counted}
-use Rattle.routes.specs.WalkAnswer.{said, Outcome, refused, routed, walkOutcome, WalkOwed}
+use Rattle.routes.specs.WalkAnswer.{said, Outcome, refused, walkOutcome, WalkOwed}
 use Rattle.routes.specs.WalkTerms.{routeFound, tallied, Searched, PlanOf}
 
 -- ---- the best is one of them

@@ -8,30 +8,27 @@ use mathlib.Core.Option.{Option, none, some}
 use Prim.Native.Nat.{ℕ, suc, _+_, _-_, _*_, _^_, _<_, _≤_}
 use native.Mathlib.Numerals.{add-one}
 use native.Mathlib.Omega.{arith}
-use borrow.Author.Tests.{ltb-true, ltb-false, leb-true, leb-false, le-ltb, lt-ltb}
+use borrow.Author.Tests.{ltb-true, ltb-false, lt-ltb}
 use lib.Bits.{bitOr, or-lt}
 use lib.Pow.{pow-lt}
-use lib.Dec.{eqb, ltb, leb}
-use lib.ListN.{length}
+use lib.Dec.{eqb, ltb}
 use Rattle.laws.specs.Terms.{Mem, bit, heavier}
 use Rattle.laws.specs.Tests.{split, clash, and-out, or-out, or-none, not-out}
-use Rattle.laws.specs.Lists.{mem-append}
 use Rattle.laws.specs.Sets.{ext, bit-with, bit-none}
 use Rattle.laws.specs.Orders.{heaviest}
 use Rattle.form.specs.declared.Body.{Body}
-use Rattle.form.specs.Conflict.{Edge, block, exits, isTest, condition, touches, opposes, denies, Sound, Onward}
+use Rattle.form.specs.Conflict.{block, exits, isTest, condition, touches, opposes, denies, Sound}
 use Rattle.relations.specs.Joined.{denies-test, opposes-test}
 use Rattle.theory.specs.Route.{stepCost}
 use Rattle.theory.specs.Row.{Key}
-use Rattle.theory.specs.Machine.{Forward}
-use Rattle.theory.specs.Edges.{has, edgesOf, edges-words, noEdges}
-use Rattle.theory.specs.Walk.{keepFirst, andThen, ifStep, branch, walk, walk-eq, tally, tallyBy}
+use Rattle.theory.specs.Edges.{has, edges-words, noEdges}
+use Rattle.theory.specs.Walk.{keepFirst, andThen, ifStep, branch, walk-eq, tally, tallyBy}
 use Rattle.theory.specs.Forward.{onMachine, entered, banned, stepOn}
 use Rattle.theory.specs.Ties.{mark}
 use Rattle.theory.specs.SweepWords.{Words}
 use Rattle.theory.specs.WalkWords.{advance, finish}
 use Rattle.theory.specs.Main.{walk-answer}
-use Rattle.routes.specs.Plan.{wordAt, exitBy, Planned}
+use Rattle.routes.specs.Plan.{wordAt, Planned}
 use Rattle.routes.specs.declared.walk.Stand.{Stand}
 use Rattle.routes.specs.declared.walk.Found.{Found}
 use Rattle.routes.specs.WalkTerms.{bannedAt, carriedAt, routeFound, tallied, Ready, Barred, Entered, Left, visited, walkFrom, Walks, isOpen, Took, Searched}

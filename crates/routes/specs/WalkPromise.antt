@@ -1,10 +1,10 @@
 -- What follows from the full walk's promise alone: one answer and one content of the lent bytes for every input, refusals too (`one-walk`); and no run of at most
 -- count iterations costs more than the bound (`walk-sound`). Rests on WalkAnswer, Accepted and theory's Bound.
-use mathlib.Core.Path.{_≡_, refl, sym, ap, subst, _∙_}
+use mathlib.Core.Path.{_≡_, refl, sym, ap, _∙_}
 use mathlib.Core.Bool.{Bool, true, false, cond}
 use mathlib.Core.List.{List}
 use mathlib.Core.Option.{Option, none, some}
-use Prim.Native.Nat.{ℕ, _*_, _<_, _≤_}
+use Prim.Native.Nat.{ℕ, _*_, _≤_}
 use native.Mathlib.Omega.{arith}
 use lib.Dec.{ltb}
 use lib.ListN.{length}
@@ -16,7 +16,7 @@ use Rattle.roundtrip.specs.Sound.{sound}
 use Rattle.theory.specs.Route.{Path, stepCost, bestRoute, walked}
 use Rattle.theory.specs.Run.{Run, runCost}
 use Rattle.theory.specs.Bound.{run-bound}
-use Rattle.routes.specs.Owed.{CountOf, Owed}
+use Rattle.routes.specs.Owed.{CountOf}
 use Rattle.routes.specs.Owed.Owed.{no-form, no-count, counted}
 use Rattle.routes.specs.Accepted.{judge-numbered, owed-once}
 use Rattle.routes.specs.declared.walk.WalkAnswer.{WalkAnswer}

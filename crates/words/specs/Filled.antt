@@ -14,7 +14,7 @@ use lib.Seq.{getD-set-same, getD-set-other, ext-getD}
 use Rattle.words.specs.Tabled.{tabled, rows}
 use Rattle.laws.specs.Terms.{bit, any, range, setOf}
 use Rattle.laws.specs.Tests.{split}
-use Rattle.laws.specs.Sets.{bit-none, bit-setOf, bit-setOf-beyond, below-or-not, ext}
+use Rattle.laws.specs.Sets.{bit-none, bit-setOf, bit-setOf-beyond, below-or-not, ext, setOf-lt}
 
 module _ (f : ℕ → Bool) where
   -- the word has the numbers below i with the test
@@ -165,3 +165,7 @@ module _ (f : ℕ → ℕ → Bool) (none : (b k : ℕ) → 64 ≤ k → f b k �
   pub rows-bit : (b : ℕ) → b < 64 → (k : ℕ) → bit (getD (rows f) b 0) k ≡ f b k
   unfolding rows
   rows-bit b h k = ap (λ x. bit x k) (tabled-at (λ b. setOf 64 (f b)) 64 b 0 h) ∙ set-bit b k
+
+-- a word with no bit past 63 is below 2 ^ 64
+pub bits-fit : (g : ℕ → Bool) → ((k : ℕ) → 64 ≤ k → g k ≡ false) → (w : ℕ) → ((k : ℕ) → bit w k ≡ g k) → w < 2 ^ 64
+bits-fit g off w is = subst (λ x. x < 2 ^ 64) (sym (same-bits w (setOf 64 g) (λ k. is k ∙ sym (set-bit (λ b. g) (λ b. off) 0 k)))) (setOf-lt 64 g)

@@ -1,9 +1,11 @@
 //! The pair test, and conflict lists worked out by hand, among them the cases where trainees go wrong.
 
-use by_listing::calls::{conflicts, NoAnswer};
+use std::fs;
+
+use by_listing::calls::{conflicts, Listing, NoAnswer};
 use by_listing::conflict::{
-    conditions_conflict, edge_condition, meets, opposite, Condition, AT_LEAST, AT_MOST, EQUAL, GREATER, LESS,
-    NOT_EQUAL,
+    conditions_conflict, edge_condition, meets, opposite, Condition, ASSIGNMENT_PAIR, AT_LEAST, AT_MOST,
+    EDGE_PAIR, EQUAL, GREATER, LESS, NOT_EQUAL,
 };
 use by_listing::form::{Block, Effect, Parts, Refusal};
 use by_listing::tally::Tally;
@@ -16,6 +18,7 @@ pub fn run(tally: &mut Tally) {
     edges(tally);
     lists(tally);
     lent_bytes(tally);
+    figure_1(tally);
 }
 
 fn condition(relation: u8, constant: i32) -> Condition {
@@ -255,4 +258,22 @@ fn lent_bytes(tally: &mut Tally) {
     tally.equal("the list asks for no count", conflicts(&form, &mut [0; 15]), Ok(15));
     let refused = NoAnswer::Refused(Refusal { number: 17, place: 0 });
     tally.equal("the reader's refusals come first", conflicts(&[], &mut []), Err(refused));
+}
+
+/// Figure 1 of document 003, where the examples have it: an assignment conflicts with one edge of a test, an earlier edge
+/// with the other, and nothing else conflicts.
+fn figure_1(tally: &mut Tally) {
+    let Ok(form) = fs::read(concat!(env!("CARGO_MANIFEST_DIR"), "/../examples/figure1.form")) else {
+        println!("figure 1: the examples have no figure1.form");
+        return;
+    };
+    let listing = Listing::of(&form);
+    let list = listing.list().expect("figure 1 is a form with few ways");
+    let mut kinds: Vec<u8> = list.iter().map(|entry| entry.kind).collect();
+    kinds.sort();
+    tally.equal("figure 1: kinds of pairs", kinds, vec![ASSIGNMENT_PAIR, EDGE_PAIR]);
+    let mut seconds: Vec<(u8, u8)> = list.iter().map(|entry| (entry.second_block, entry.second_outcome)).collect();
+    seconds.sort();
+    let test = seconds.first().map_or(0, |(block, _)| *block);
+    tally.equal("figure 1: the second edges", seconds, vec![(test, 1), (test, 2)]);
 }

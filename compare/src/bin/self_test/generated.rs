@@ -8,16 +8,18 @@ use by_listing::form::{read, write, Body, GO, MOST_BLOCKS, OPEN, TEST};
 use by_listing::generate::{generate, mixed, mixed_accepted, Kind, KINDS};
 use by_listing::report::LONGEST_LIST;
 use by_listing::rows::{row, RowEntry};
-use by_listing::tally::Tally;
+use by_listing::tally::{Met, Tally};
 use by_listing::ways::{for_each_way, left_by, ways_to_list, weight, Step, Way};
 
 const SEED: u64 = 1;
 const INPUTS: u64 = 20_000;
 const BODIES: u64 = 4_000;
+const WIDE: u64 = 400;
 
 pub fn run(tally: &mut Tally) {
     println!("generated inputs: seed {SEED}, {INPUTS} inputs of all kinds, {BODIES} accepted bodies");
     verdicts(tally);
+    wide(tally);
     bodies(tally);
 }
 
@@ -37,7 +39,7 @@ fn verdicts(tally: &mut Tally) {
         }
     }
     println!("verdicts (0 is accepted):");
-    for kind in KINDS {
+    for kind in KINDS.into_iter().filter(|kind| *kind != Kind::Wide) {
         let of_kind: Vec<String> = met
             .iter()
             .filter(|((name, _), _)| *name == kind.name())
@@ -63,6 +65,15 @@ fn verdicts(tally: &mut Tally) {
     }
 }
 
+/// Wide bodies are accepted, and often have more ways than can be listed.
+fn wide(tally: &mut Tally) {
+    let ways = |seed| read(&generate(Kind::Wide, seed)).map(|body| ways_to_list(&body));
+    let past_listing = (0..WIDE).filter(|seed| ways(*seed).is_ok_and(|ways| ways > MOST_WAYS)).count() as u64;
+    println!("of {WIDE} wide bodies {past_listing} have too many ways to list");
+    tally.check((0..WIDE).all(|seed| ways(seed).is_ok()), || "a wide body is refused".to_string());
+    tally.check(past_listing >= WIDE / 10, || format!("{past_listing} wide bodies have too many ways to list"));
+}
+
 /// What is read is written back, also with litter past the counts.
 fn check_written(tally: &mut Tally, body: &Body, form: &[u8], what: &str) {
     let mut littered = body.clone();
@@ -77,16 +88,6 @@ fn check_written(tally: &mut Tally, body: &Body, form: &[u8], what: &str) {
         let written = write(body, &mut out);
         let good = written == Ok(form.len()) && out[..form.len()] == *form && out[form.len()] == 0x33;
         tally.check(good, || format!("{what} is not written back"));
-    }
-}
-
-/// How many bodies had what the generator is to bring about.
-#[derive(Default)]
-struct Met(BTreeMap<&'static str, u64>);
-
-impl Met {
-    fn note(&mut self, what: &'static str, is: bool) {
-        *self.0.entry(what).or_default() += u64::from(is);
     }
 }
 
@@ -122,10 +123,7 @@ fn bodies(tally: &mut Tally) {
     }
     println!("sweeps of accepted bodies (0 is an answer): {answers:?}");
     println!("longest rows: {lengths_of_rows:?}");
-    println!("bodies with: {:?}", met.0);
-    for (what, times) in &met.0 {
-        tally.check(*times >= 20, || format!("bodies with {what} were met {times} times"));
-    }
+    met.finish("bodies", tally, 20);
     for number in [0, 20, 40] {
         let times = answers.get(&number).copied().unwrap_or(0);
         tally.check(times >= 20, || format!("sweep answer {number} was met {times} times"));

@@ -1,111 +1,76 @@
--- `routes::plan::plan_of` meets its contract: column after column, and the columns of the body's sets are its plan.
-use mathlib.Core.Path.{refl}
+-- `routes::plan::plan_of` meets its contract. The loop's invariant: the rows of the blocks below b stand in the plan. The measure is the blocks to come.
+use mathlib.Core.List.{List}
+use mathlib.Core.Path.{_≡_, sym, ap}
+use Prim.Native.Nat.{ℕ, _≤_, _-_}
 use native.Mathlib.Omega.{arith}
-use Rattle.routes.specs.PlanLaws.{no-columns, more-columns, rowsOf, planned}
-use borrow.Author.Needs.{needs}
+use lib.ListN.{length, getD}
+use Rattle.form.specs.Conflict.{noBlock}
+use Rattle.routes.specs.PlanLaws.{rowFrom, Rows, rows-more, planned-rows}
 use Rattle.routes.proofs.plan.plan_of.Statement.{statement}
 use Rattle.routes.proofs.plan.plan_of.Tie as tie
 
-sets-of-requires : tie.Need-sets-of-requires
-sets-of-requires c κs = search needs
+abbrev Inv-loop : tie.InvT-loop
+Inv-loop sets blocks plan₀ b₀ plan b = Rows (λ c. rowFrom sets (getD blocks c noBlock) c) b plan × ((b ≤ 64) × (length plan ≡ 1024))
 
-wide-row-requires : tie.Need-wide-row-requires
-wide-row-requires c κs = search needs
+abbrev μ-loop : tie.MeasureT-loop
+μ-loop sets blocks plan₀ b₀ plan b = 64 - b
 
-wide-row-requires-2 : tie.Need-wide-row-requires-2
-wide-row-requires-2 c κs = search needs
+sets-of-requires : tie.Need-sets-of-requires Inv-loop μ-loop
+sets-of-requires c κs = record { few = c .pre .few; onward = c .pre .onward }
 
-costs-of-requires : tie.Need-costs-of-requires
-costs-of-requires c κs = search needs
+loop-holds : tie.Need-loop-holds Inv-loop μ-loop
+loop-holds c = (λ k w h l. let z : ⊥ = omega arith in absurd z, omega arith)
 
-marks-of-requires : tie.Need-marks-of-requires
-marks-of-requires c κs = search needs
+mul-row-of : tie.Need-mul-row-of Inv-loop μ-loop
+mul-row-of c = omega arith
 
-put-column-requires : tie.Need-put-column-requires
-put-column-requires c κs = search needs
+array-copy-out-row-of : tie.Need-array-copy-out-row-of Inv-loop μ-loop
+array-copy-out-row-of c = omega arith
 
-put-column-requires-2 : tie.Need-put-column-requires-2
-put-column-requires-2 c κs = search needs
+row-of-requires : tie.Need-row-of-requires Inv-loop μ-loop
+row-of-requires c κs = omega arith
 
-put-column-requires-3 : tie.Need-put-column-requires-3
-put-column-requires-3 c κs = search needs
+sixteen : (c : tie.After-row-of Inv-loop μ-loop) → length (c .row-of .result) ≡ 16
+sixteen c = ap length (c .row-of .ensures)
 
-put-column-requires-4 : tie.Need-put-column-requires-4
-put-column-requires-4 c κs = search needs
+slice-aggregate-put-row : tie.Need-slice-aggregate-put-row Inv-loop μ-loop
+slice-aggregate-put-row c = sym (c .before .before .before .before .loop .inv .1 .1)
 
-put-column-requires-5 : tie.Need-put-column-requires-5
-put-column-requires-5 c κs = search needs
+slice-aggregate-put-row-2 : tie.Need-slice-aggregate-put-row-2 Inv-loop μ-loop
+slice-aggregate-put-row-2 c = sym (sixteen (c .before .before))
 
-put-column-requires-6 : tie.Need-put-column-requires-6
-put-column-requires-6 c κs = search needs
+put-row-requires : tie.Need-put-row-requires Inv-loop μ-loop
+put-row-requires c κs = (sixteen (c .before .before), omega arith)
 
-put-column-requires-7 : tie.Need-put-column-requires-7
-put-column-requires-7 c κs = search needs
+add-b : tie.Need-add-b Inv-loop μ-loop
+add-b c = omega arith
 
-put-column-requires-8 : tie.Need-put-column-requires-8
-put-column-requires-8 c κs = search needs
+loop-less : tie.Need-loop-less Inv-loop μ-loop
+loop-less c = omega arith
 
-put-column-requires-9 : tie.Need-put-column-requires-9
-put-column-requires-9 c κs = search needs
+loop-again : tie.Need-loop-again Inv-loop μ-loop
+loop-again c =
+    let wrote = c .before in
+    let made = wrote .before .before .before in
+    let head = made .before .before .before in
+    let loop = head .loop in
+    let given = head .before .before in
+    let row : ℕ → List ℕ = λ k. rowFrom (given .sets-of .result) (getD (given .before .args .body .blocks) k noBlock) k in (
+      rw (wrote .put-row .ensures)
+          (rows-more row (loop .b) (loop .plan) (made .row-of .result) (sixteen made) (omega arith) (made .row-of .ensures) (loop .inv .0)),
+      omega (arith, wrote .put-row .kept .0),
+    )
 
-put-column-requires-10 : tie.Need-put-column-requires-10
-put-column-requires-10 c κs = search needs
-
-put-column-requires-11 : tie.Need-put-column-requires-11
-put-column-requires-11 c κs = search needs
-
-put-column-requires-12 : tie.Need-put-column-requires-12
-put-column-requires-12 c κs = search needs
-
-put-column-requires-13 : tie.Need-put-column-requires-13
-put-column-requires-13 c κs = search needs
-
-returns : tie.Need-returns
+returns : tie.Need-returns Inv-loop μ-loop
 returns c =
-    let start = c .before .before .before .before .before .before .before .before .before .before .before .before .before .before .before .before .before .before .before .before .before .before .before .before .before .before .before .before .before .before .before .before .before .before .before .before .before .before .before .before .before .before .before .before .before .before .before .before .before .before .before .before .before .before .before .before .before .before .before .before .before .before .before in
-    let sets = c .before .before .before .before .before .before .before .before .before .before .before .before .before .before .before .before .before .before .before .before .before .before .before .before .before .before .before .before .before .before .before .before .before .before .before .before .before .before .before .before .before .before .before .before .before .before .before .before .before .before .before .before .before .before .before .before .before .before .before .before .before .before .sets-of in
-    let jumps = c .before .before .before .before .before .before .before .before .before .before .before .before .before .before .before .before .before .before .before .before .before .before .before .before .before .before .before .before .before .before .before .before .before .before .before .before .before .before .before .before .before .before .before .before .before .before .before .before .before .before .before .before .before .before .before .before .before .wide-row in
-    let falls = c .before .before .before .before .before .before .before .before .before .before .before .before .before .before .before .before .before .before .before .before .before .before .before .before .before .before .before .before .before .before .before .before .before .before .before .before .before .before .before .before .before .before .before .before .before .before .before .before .before .before .before .before .before .before .before .wide-row2 in
-    let costs = c .before .before .before .before .before .before .before .before .before .before .before .before .before .before .before .before .before .before .before .before .before .before .before .before .before .before .before .before .before .before .before .before .before .before .before .before .before .before .before .before .before .before .before .before .before .before .before .before .before .before .before .before .before .costs-of in
-    let marks = c .before .before .before .before .before .before .before .before .before .before .before .before .before .before .before .before .before .before .before .before .before .before .before .before .before .before .before .before .before .before .before .before .before .before .before .before .before .before .before .before .before .before .before .before .before .before .before .before .before .before .before .before .marks-of in
-    let rows = rowsOf (sets .result) (jumps .result) (falls .result) (costs .result) (marks .result) in
-    planned (start .args .body) (start .pre) (sets .result) (sets .ensures) (jumps .result) (falls .result) (costs .result) (marks .result) _
-    (jumps .ensures) (falls .ensures) (costs .ensures) (marks .ensures)
-    (more-columns rows 12 (omega arith) (c .put-column13 .ensures)
-    (more-columns rows 11 (omega arith) (c .before .before .before .put-column12 .ensures)
-    (more-columns rows 10 (omega arith) (c .before .before .before .before .before .before .put-column11 .ensures)
-    (more-columns rows 9 (omega arith) (c .before .before .before .before .before .before .before .before .before .put-column10 .ensures)
-    (more-columns rows 8 (omega arith) (c .before .before .before .before .before .before .before .before .before .before .before .before .put-column9 .ensures)
-    (more-columns rows 7 (omega arith) (c .before .before .before .before .before .before .before .before .before .before .before .before .before .before .before .put-column8 .ensures)
-    (more-columns rows 6 (omega arith) (c .before .before .before .before .before .before .before .before .before .before .before .before .before .before .before .before .before .before .put-column7 .ensures)
-    (more-columns rows 5 (omega arith) (c .before .before .before .before .before .before .before .before .before .before .before .before .before .before .before .before .before .before .before .before .before .put-column6 .ensures)
-    (more-columns rows 4 (omega arith) (c .before .before .before .before .before .before .before .before .before .before .before .before .before .before .before .before .before .before .before .before .before .before .before .before .put-column5 .ensures)
-    (more-columns rows 3 (omega arith) (c .before .before .before .before .before .before .before .before .before .before .before .before .before .before .before .before .before .before .before .before .before .before .before .before .before .before .before .put-column4 .ensures)
-    (more-columns rows 2 (omega arith) (c .before .before .before .before .before .before .before .before .before .before .before .before .before .before .before .before .before .before .before .before .before .before .before .before .before .before .before .before .before .before .put-column3 .ensures)
-    (more-columns rows 1 (omega arith) (c .before .before .before .before .before .before .before .before .before .before .before .before .before .before .before .before .before .before .before .before .before .before .before .before .before .before .before .before .before .before .before .before .before .put-column2 .ensures)
-    (more-columns rows 0 (omega arith) (c .before .before .before .before .before .before .before .before .before .before .before .before .before .before .before .before .before .before .before .before .before .before .before .before .before .before .before .before .before .before .before .before .before .before .before .before .put-column .ensures)
-    (no-columns rows _ refl))))))))))))))
+    let head = c .before in
+    let all : head .loop .b ≡ 64 = omega arith in
+    let start = head .before .before .before in
+    planned-rows (start .args .body) (start .pre) (head .loop .plan) (head .loop .inv .1 .1) _ (head .before .before .sets-of .ensures)
+    (rw (← all) (head .loop .inv .0))
 
 pub plan-of-spec : {M : Type 1} → statement M
 plan-of-spec =
     tie.close
-    (tie.spec
-    sets-of-requires
-    wide-row-requires
-    wide-row-requires-2
-    costs-of-requires
-    marks-of-requires
-    put-column-requires
-    put-column-requires-2
-    put-column-requires-3
-    put-column-requires-4
-    put-column-requires-5
-    put-column-requires-6
-    put-column-requires-7
-    put-column-requires-8
-    put-column-requires-9
-    put-column-requires-10
-    put-column-requires-11
-    put-column-requires-12
-    put-column-requires-13
-    returns)
+    (tie.spec Inv-loop μ-loop sets-of-requires loop-holds mul-row-of array-copy-out-row-of row-of-requires slice-aggregate-put-row
+    slice-aggregate-put-row-2 put-row-requires add-b loop-less loop-again returns)

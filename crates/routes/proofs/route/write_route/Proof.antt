@@ -1,9 +1,8 @@
 -- `routes::route::write_route` meets its contract. The loop's invariant: the bytes of the blocks below b stand in the lent bytes. The measure is what is
 -- left of the blocks.
-use Prim.Native.Nat.{_-_, _≤_}
+use Prim.Native.Nat.{_-_}
 use mathlib.Core.Path.{refl}
 use native.Mathlib.Omega.{arith}
-use lib.ListN.{length}
 use Rattle.routes.specs.RouteWords.{Written, written-none, written-more, written-all}
 use Rattle.routes.proofs.route.write_route.Statement.{statement}
 use Rattle.routes.proofs.route.write_route.Tie as tie

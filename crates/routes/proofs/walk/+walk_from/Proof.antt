@@ -1,9 +1,8 @@
 -- The proof of the cycle of calls {walk_from}. The measure is the number of blocks left to the end. A turn is the theory's turn (WalkLaws, `walks`): the block is
 -- visited, then each of its two ways is taken where it is open.
 use borrow.Author.Needs.{needs}
-use mathlib.Core.Path.{_≡_, refl, sym, ap, subst, _∙_}
+use mathlib.Core.Path.{refl, sym, subst, _∙_}
 use mathlib.Core.Logic.{⊎-elim}
-use mathlib.Core.Bool.{true, false}
 use Prim.Native.Nat.{ℕ, _-_, _<_}
 use native.Mathlib.Omega.{arith}
 use borrow.Fn.Kinds.{In}

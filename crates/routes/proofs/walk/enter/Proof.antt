@@ -30,7 +30,7 @@ either-requires-2 c κs = search needs
 
 returns : tie.Need-returns
 returns c =
-    let touched = c .before .before .before .before .before .before .word .ensures in record {
+    record {
       jumps = λ k.
           c .before .before .before .either .ensures k
           ∙ ap₂ _||_ (c .before .before .before .before .before .less .ensures k ∙ ap (λ (w : ℕ). bit (c .before .before .before .before .before .before .before .before .args .at .jumps) k && not (bit w k)) (c .before .before .before .before .before .before .word .ensures)) (ap (λ (w : ℕ). bit w k) (c .before .before .before .before .word2 .ensures));

@@ -1,5 +1,5 @@
 -- `routes::walk::walk_planned` meets its contract, a law of the answer for each way out.
-use mathlib.Core.Path.{_≡_, ap, subst, _∙_}
+use mathlib.Core.Path.{ap, subst, _∙_}
 use native.Mathlib.Omega.{arith}
 use borrow.Author.Tests.{not-true, not-false}
 use Rattle.routes.specs.declared.walk.WalkAnswer.{WalkAnswer}

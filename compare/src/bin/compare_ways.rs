@@ -1,0 +1,61 @@
+//! Holds the two proved ways, the full walk and the sweep, to each other, also on bodies that have more ways than the
+//! second program can list.
+//!
+//!     compare_ways [SEED [INPUTS]] -- PROGRAM WORD..
+//!
+//! Where both ways answer, iterations, weight, bound and route are the same; where one refuses for a reason that both know,
+//! so does the other, at the same place. The sweep over a lent table and over the library's own give the same altogether.
+
+use std::process::ExitCode;
+
+use by_listing::calls::MOST_WAYS;
+use by_listing::driver::{Comparison, Form};
+use by_listing::form::{read, MOST_BLOCKS};
+use by_listing::generate::mostly_wide;
+use by_listing::rows::ROW_WORDS;
+use by_listing::served::{Answer, Call, Question};
+use by_listing::ways::ways_to_list;
+
+const INPUTS: u64 = 5_000;
+
+/// The walk's budget.
+const BUDGET: u32 = 20_000;
+
+fn main() -> ExitCode {
+    let mut comparison = Comparison::start("compare_ways", INPUTS, &[Call::Walk, Call::Sweep, Call::SweepTable]);
+    for Form { what, bytes: form, .. } in comparison.forms(mostly_wide) {
+        let body = read(&form);
+        let blocks = body.as_ref().map_or(0, |body| body.block_count);
+        let too_many_ways = body.is_ok_and(|body| ways_to_list(&body) > MOST_WAYS);
+        let questions = vec![
+            Question::on(Call::Walk, &form).budget(BUDGET).out(Some(MOST_BLOCKS)),
+            Question::on(Call::SweepTable, &form).table(Some(ROW_WORDS * blocks)).out(Some(MOST_BLOCKS)),
+            Question::on(Call::Sweep, &form).out(Some(MOST_BLOCKS)),
+        ];
+        comparison.ask(what, questions, move |_, answers, met| {
+            let [walk, lent, own] = answers else { panic!("three were asked") };
+            let both = walk.numbers[0] == 0 && lent.numbers[0] == 0;
+            met.note("an answer both ways", both);
+            met.note("an answer both ways and too many ways to list", both && too_many_ways);
+            agree("walk and sweep", [walk, lent], blocks, 5, &[40, 41])?;
+            agree("lent table and own", [lent, own], blocks, 6, &[44])
+        });
+    }
+    let of_both = [0, 10, 12, 13, 14, 15, 17, 18, 19, 20];
+    comparison.finish(&[
+        (Call::Walk, &[&of_both[..], &[41]].concat()),
+        (Call::SweepTable, &[&of_both[..], &[40]].concat()),
+        (Call::Sweep, &[&of_both[..], &[40, 44]].concat()),
+    ])
+}
+
+/// Are the first so many numbers the same, and the route? Nothing is asked where one of the two answers with a number that
+/// the other cannot give.
+fn agree(which: &str, two: [&Answer; 2], blocks: usize, numbers: usize, only_one: &[u64]) -> Result<(), String> {
+    if two.iter().any(|answer| only_one.contains(&answer.numbers[0])) {
+        return Ok(());
+    }
+    let [one, other] = two.map(|answer| (&answer.numbers[..numbers], &answer.memory.out()[..blocks]));
+    let same = if one.0[0] == 0 { one == other } else { one.0 == other.0 };
+    same.then_some(()).ok_or_else(|| format!("{which} do not agree: {one:?} and {other:?}"))
+}
