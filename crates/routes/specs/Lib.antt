@@ -9,3 +9,15 @@ pub mod Accepted
 pub mod WalkLaws
 pub mod WalkEnds
 pub mod WalkPromise
+-- The sweep: rows as flat words, a step in front of a tail by the plan, a row built.
+pub mod Entries
+pub mod SweepSteps
+pub mod SweepRows
+pub mod SweepTurn
+pub mod SweepTerms
+pub mod SweepTable
+pub mod SweepDown
+pub mod SweepDrive
+pub mod SweepAnswer
+pub mod SweepEnds
+pub mod SweepPromise

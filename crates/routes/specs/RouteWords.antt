@@ -20,7 +20,7 @@ bytesOf count jumped fallen = map (byteOf count jumped fallen) (range 0 count)
 
 -- ---- the loop
 
-range-length : (a n : ℕ) → length (range a n) ≡ n
+pub range-length : (a n : ℕ) → length (range a n) ≡ n
 range-length a zero = refl
 range-length a (suc n) = ap suc (range-length (suc a) n)
 
