@@ -1,7 +1,7 @@
 -- What the exported calls return. Trusted: each number of an answer, from the answers of the layers below; 0 as number is no refusal.
 use mathlib.Core.List.{List}
 use Prim.Native.Nat.{ℕ, _/_}
-use lib.ListN.{length}
+use lib.ListN.{length, replicate}
 use Rattle.form.specs.declared.Verdict.{Verdict}
 use Rattle.form.specs.declared.Written.{Written}
 use Rattle.form.specs.declared.Written.the-variants.{Bytes, Unwritten}
@@ -9,11 +9,14 @@ use Rattle.form.specs.Form.{when, judge, bodyOf, lay}
 use Rattle.form.specs.Answer.{accepted, numberOf, placeOf, written, heldAfter}
 use Rattle.counter.specs.Answer as Counter
 use Rattle.routes.specs.WalkAnswer as Walk
+use Rattle.routes.specs.SweepAnswer as Sweep
+use Rattle.routes.specs.declared.sweep.SweepAnswer.{SweepAnswer}
 use Rattle.desk.specs.declared.CountAnswer.{CountAnswer}
 use Rattle.desk.specs.declared.FormAnswer.{FormAnswer}
 use Rattle.conflict.specs.declared.Listed.{Listed}
 use Rattle.conflict.specs.Answer as Conflict
 use Rattle.desk.specs.declared.ListNumbers.{ListNumbers}
+use Rattle.desk.specs.declared.SweepNumbers.{SweepNumbers}
 use Rattle.desk.specs.declared.WalkNumbers.{WalkNumbers}
 
 abbrev pub formAnswer : ℕ → ℕ → FormAnswer
@@ -54,3 +57,25 @@ walkValues answer =
 -- The conflict list's; an entry has 5 bytes
 abbrev pub listNumbers : Listed → ListNumbers
 listNumbers r = record { number = Conflict.numberOf r; place = Conflict.placeOf r; entries = Conflict.bytesOf r / 5 }
+
+-- The sweep's
+abbrev pub sweepSaid : SweepAnswer → Sweep.Values
+sweepSaid answer = Sweep.said answer
+
+abbrev pub sweepValues : SweepNumbers → Sweep.Values
+sweepValues answer =
+    record {
+      number = answer .number;
+      place = answer .place;
+      iterations = answer .iterations;
+      weight = answer .weight;
+      bound = answer .bound;
+      kept = answer .kept;
+    }
+
+abbrev pub sweepOutcome : SweepNumbers → (route table : List ℕ) → Sweep.Outcome
+sweepOutcome answer route table = record { values = sweepValues answer; route = route; table = table }
+
+-- The sweep over a table of 1,536 zero entries of its own, whatever that holds afterwards
+abbrev pub OwnSweepOwed : (form route : List ℕ) → SweepNumbers → List ℕ → Type 0
+OwnSweepOwed form route answer held = (table : List ℕ) × Sweep.SweepOwed form route (replicate 7680 0) (sweepOutcome answer held table)

@@ -9,11 +9,13 @@ ghost use Rattle.conflict.specs.Pair.{conflicting};
 ghost use Rattle.conflict.specs.Answer.{listing, heldAfter};
 ghost use Rattle.counter.specs.Answer.{Owed};
 ghost use Rattle.routes.specs.WalkAnswer.{said, WalkOwed};
-ghost use Rattle.desk.specs.Answer.{countValues, walkValues, listNumbers, formAnswer, verdictAnswer, writtenAnswer, rewriteAnswer, rewriteHeld};
+ghost use Rattle.routes.specs.SweepAnswer.{SweepOwed};
+ghost use Rattle.desk.specs.Answer.{countValues, walkValues, sweepValues, sweepSaid, sweepOutcome, OwnSweepOwed, listNumbers, formAnswer, verdictAnswer, writtenAnswer, rewriteAnswer, rewriteHeld};
 use conflict::Listed;
 use counter::Counted;
 use form::Verdict;
 use form::Written;
+use routes::sweep::SweepAnswer;
 use routes::walk::WalkAnswer;
 
 // A refusal's number and place; number 0: none.
@@ -48,6 +50,17 @@ pub struct WalkNumbers {
     pub weight: u64,
     pub bound: u64,
     pub walked: u64,
+}
+
+// The numbers of the sweep.
+#[repr(C)]
+pub struct SweepNumbers {
+    pub number: u64,
+    pub place: u64,
+    pub iterations: u64,
+    pub weight: u64,
+    pub bound: u64,
+    pub kept: u64,
 }
 
 fn answer(number: u64, place: u64) -> FormAnswer
@@ -182,4 +195,53 @@ pub extern "C" fn somniaret_walk(bytes: &[u8], budget: u32, route: &mut [u8]) ->
     ensures { λ r. ⌜ WalkOwed (now (bytes .entry)) budget (now (route .entry)) (walkValues r, now (route .exit)) ⌝ }
 {
     of_walk(routes::walk::walk(bytes, budget, route))
+}
+
+fn of_sweep(sweep: SweepAnswer) -> SweepNumbers
+    ensures { λ r. ⌜ sweepValues r ≡ sweepSaid sweep ⌝ }
+{
+    match sweep {
+        SweepAnswer::Routed {
+            iterations,
+            weight,
+            bound,
+            kept,
+        } => SweepNumbers {
+            number: 0,
+            place: 0,
+            iterations,
+            weight,
+            bound,
+            kept,
+        },
+        SweepAnswer::Refused { number, place } => SweepNumbers {
+            number: number as u64,
+            place: place as u64,
+            iterations: 0,
+            weight: 0,
+            bound: 0,
+            kept: 0,
+        },
+    }
+}
+
+// The sweep of a form over a lent table, five words an entry: its numbers, the rows in the table, and the route's bytes in the lent ones.
+#[no_mangle]
+pub extern "C" fn somniaret_sweep_table(
+    bytes: &[u8],
+    table: &mut [u64],
+    route: &mut [u8],
+) -> SweepNumbers
+    ensures { λ r. ⌜ SweepOwed (now (bytes .entry)) (now (route .entry)) (now (table .entry)) (sweepOutcome r (now (route .exit)) (now (table .exit))) ⌝ }
+{
+    of_sweep(routes::sweep::sweep(bytes, table, route))
+}
+
+// The same over a table of its own, as large as the report program's: 1,536 entries.
+#[no_mangle]
+pub extern "C" fn somniaret_sweep(bytes: &[u8], route: &mut [u8]) -> SweepNumbers
+    ensures { λ r. ⌜ OwnSweepOwed (now (bytes .entry)) (now (route .entry)) r (now (route .exit)) ⌝ }
+{
+    let mut table = [0u64; 7680];
+    somniaret_sweep_table(bytes, &mut table, route)
 }

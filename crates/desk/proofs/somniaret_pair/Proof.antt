@@ -1,6 +1,5 @@
 -- `desk::somniaret_pair` meets its contract: the pair test's own.
 use mir.Facts.{toZ-ofZ}
-use borrow.Author.Needs.{needs}
 use Rattle.desk.proofs.somniaret_pair.Statement.{statement}
 use Rattle.desk.proofs.somniaret_pair.Tie as tie
 
