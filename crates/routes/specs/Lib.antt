@@ -9,7 +9,7 @@ pub mod Accepted
 pub mod WalkLaws
 pub mod WalkEnds
 pub mod WalkPromise
--- The sweep: rows as flat words, a step in front of a tail by the plan, a row built.
+-- The sweep. Trusted: SweepTerms, SweepAnswer. Rows as flat words, a step in front of a tail by the plan, a row built, the table, the drive, the answer, what follows.
 pub mod Entries
 pub mod SweepSteps
 pub mod SweepRows

@@ -41,6 +41,10 @@ pub record Outcome : Type 0 where
   pub route : List ℕ
   pub table : List ℕ
 
+-- An answer with the lent memory after it.
+abbrev pub outcomeOf : SweepAnswer → (route table : List ℕ) → Outcome
+outcomeOf answer route table = record { values = said answer; route = route; table = table }
+
 -- A refusal changes no lent memory.
 abbrev pub refused : (route table : List ℕ) → (number place : ℕ) → Outcome
 refused route table number place = record { values = refusal number place; route = route; table = table }

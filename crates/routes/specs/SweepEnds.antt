@@ -38,11 +38,7 @@ use Rattle.routes.specs.SweepTerms.{tableWith}
 use Rattle.routes.specs.SweepDrive.{longestRow, highestCrowd, sweptOf, completeFrom, SweptAs, entry-mem}
 use Rattle.routes.specs.WalkTerms.{PlanOf}
 use Rattle.routes.specs.WalkEnds.{best-leads, product}
-use Rattle.routes.specs.SweepAnswer.{Values, said, Outcome, refused, rowsOf, routed, swept, sweepOutcome, SweepOwed}
-
--- an answer with the lent memory after it
-abbrev pub outcomeOf : SweepAnswer → (route table : List ℕ) → Outcome
-outcomeOf answer route table = record { values = said answer; route = route; table = table }
+use Rattle.routes.specs.SweepAnswer.{Values, said, Outcome, outcomeOf, refused, rowsOf, routed, swept, sweepOutcome, SweepOwed}
 
 -- what row 0 comes to: its one entry's weight and route, or 43
 abbrev pub answerOf : (count iterations kept found : ℕ) → (table route : List ℕ) → SweepAnswer × List ℕ

@@ -24,12 +24,11 @@ use Rattle.routes.specs.Owed.{CountOf, Owed}
 use Rattle.routes.specs.Owed.Owed.{no-form, no-count, counted}
 use Rattle.routes.specs.Accepted.{judge-numbered, owed-once}
 use Rattle.routes.specs.RouteWords.{range-length}
-use Rattle.routes.specs.SweepEnds.{outcomeOf}
 use Rattle.routes.specs.declared.walk.WalkAnswer.the-variants.{Walked}
 use Rattle.routes.specs.WalkAnswer as walk
 use Rattle.routes.specs.declared.sweep.SweepAnswer.{SweepAnswer}
 use Rattle.routes.specs.declared.sweep.SweepAnswer.the-variants.{Routed, Refused}
-use Rattle.routes.specs.SweepAnswer.{Values, refusal, said, Outcome, refused, rowsOf, routed, swept, sweepOutcome, SweepOwed}
+use Rattle.routes.specs.SweepAnswer.{Values, refusal, said, Outcome, outcomeOf, refused, rowsOf, routed, swept, sweepOutcome, SweepOwed}
 
 -- ---- an answer with a route, by either way
 

@@ -1,31 +1,32 @@
-// The sweep, over a plan: from the last block down, row by row, into a lent table of flat words. An entry is five words: jump set, fall set, weight, the
-// blocks left by jump or go, the blocks left by fall. The row under construction is a local array and is stored only when it is whole.
+// The sweep: over the plan of a body, from the last block down, row by row, into a lent table of flat words. An entry is five words: jump set, fall set, weight,
+// the blocks left by jump or go, the blocks left by fall. The row under construction is a local array and is stored only when it is whole. What is owed is in
+// specs/SweepAnswer.antt and specs/SweepTerms.antt.
 ghost use mathlib.Core.Path.{_≡_};
 ghost use mathlib.Core.Bool.{Bool, true, false, cond, _&&_};
+ghost use mathlib.Core.List.{List};
 ghost use Prim.Native.Nat.{ℕ, suc, max, _+_, _*_, _^_, _<_, _≤_};
 ghost use lib.Dec.{eqb, ltb};
 ghost use lib.ListN.{length, getD};
 ghost use lib.Seq.{paste};
 ghost use Rattle.laws.specs.Terms.{next, heavier};
+ghost use Rattle.form.specs.declared.Body.{Body};
+ghost use Rattle.form.specs.declared.Verdict.the-variants.{Accepted};
+ghost use Rattle.form.specs.Form.{judge, bodyOf};
+ghost use Rattle.form.specs.Conflict.{Sound};
 ghost use Rattle.theory.specs.Row.{keyBefore};
 ghost use Rattle.theory.specs.Ties.{earlier};
+ghost use Rattle.routes.specs.Plan.{Planned};
+ghost use Rattle.routes.specs.WalkTerms.{PlanOf};
+ghost use Rattle.routes.specs.Accepted.{CounterOwed, iterationsOf};
 ghost use Rattle.routes.specs.Entries.{entryOf, entryAt, entriesFrom, betterOf, inserted, entryPut, Place, Moved, Squeezed, Grown};
 ghost use Rattle.routes.specs.SweepSteps.{sideOf, hitsOf, openedOf};
 ghost use Rattle.routes.specs.SweepRows.{pushed, Ready, leftFrom};
 ghost use Rattle.routes.specs.SweepTurn.{begunWith};
 ghost use Rattle.routes.specs.SweepDown.{zeroRow, Holds, Turned};
 ghost use Rattle.routes.specs.SweepDrive.{SweptAs};
-ghost use Rattle.routes.specs.WalkTerms.{PlanOf};
-ghost use Rattle.routes.specs.Plan.{Planned};
-ghost use Rattle.form.specs.declared.Body.{Body};
-ghost use Rattle.form.specs.Conflict.{Sound};
 ghost use Rattle.routes.specs.declared.sweep.SweepAnswer.the-variants.{Refused};
-ghost use Rattle.routes.specs.SweepAnswer.{sweepOutcome, SweepOwed};
-ghost use Rattle.routes.specs.SweepEnds.{answerOf, outcomeOf};
-ghost use Rattle.form.specs.declared.Verdict.the-variants.{Accepted};
-ghost use Rattle.form.specs.Form.{judge, bodyOf};
-ghost use Rattle.routes.specs.Accepted.{CounterOwed, iterationsOf};
-ghost use mathlib.Core.List.{List};
+ghost use Rattle.routes.specs.SweepAnswer.{outcomeOf, sweepOutcome, SweepOwed};
+ghost use Rattle.routes.specs.SweepEnds.{answerOf};
 
 // Whether the first key comes before the second: by the jump set, then by the fall set.
 fn before(jumps: u64, falls: u64, jumps2: u64, falls2: u64) -> bool

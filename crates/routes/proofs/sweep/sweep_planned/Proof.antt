@@ -4,8 +4,9 @@ use native.Mathlib.Omega.{arith}
 use Rattle.form.specs.declared.Body.{Body}
 use Rattle.routes.specs.declared.sweep.Swept.{Swept}
 use Rattle.routes.specs.declared.sweep.SweepAnswer.{SweepAnswer}
+use Rattle.routes.specs.SweepAnswer.{outcomeOf}
 use Rattle.routes.specs.SweepDrive.{SweptAs}
-use Rattle.routes.specs.SweepEnds.{outcomeOf, short-route, short-table, over, answered, weight-few}
+use Rattle.routes.specs.SweepEnds.{short-route, short-table, over, answered, weight-few}
 use borrow.Author.Needs.{needs}
 use Rattle.routes.proofs.sweep.sweep_planned.Statement.{statement}
 use Rattle.routes.proofs.sweep.sweep_planned.Tie as tie
