@@ -11,7 +11,6 @@ use Rattle.form.specs.Form.{when, judge, bodyOf}
 use Rattle.form.specs.Conflict.{conflictBytes}
 use Rattle.conflict.specs.declared.Listed.{Listed}
 use Rattle.conflict.specs.declared.Listed.the-variants.{Bytes, Unlisted}
-use Rattle.conflict.specs.declared.ListAnswer.{ListAnswer}
 
 abbrev pub numberOf : Listed → ℕ
 numberOf (Bytes count) = 0
@@ -41,7 +40,3 @@ listing form room = asJudged (judge form) (listedIn (bodyOf form) room)
 abbrev pub heldAfter : Listed → List ℕ → List ℕ → List ℕ
 heldAfter (Bytes count) list out = list ++ drop (length list) out
 heldAfter (Unlisted number place) list out = out
-
--- the same for C
-abbrev pub exported : Listed → ListAnswer
-exported r = record { number = numberOf r; place = placeOf r; bytes = bytesOf r }

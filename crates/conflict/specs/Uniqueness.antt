@@ -7,18 +7,16 @@ use mathlib.Core.List.{List}
 use Prim.Native.Nat.{ℕ}
 use lib.IntN.{ℤ}
 use lib.ListN.{length}
-use Rattle.laws.specs.Terms.{digit}
 use Rattle.form.specs.declared.Body.{Body}
 use Rattle.form.specs.Form.{bodyOf}
 use Rattle.form.specs.Relation.{meets}
 use Rattle.form.specs.Conflict.{conflicts, conflictBytes}
 use Rattle.relations.specs.Conditions.{contradict-says}
 use Rattle.conflict.specs.declared.Listed.{Listed}
-use Rattle.conflict.specs.declared.ListAnswer.{ListAnswer}
 use Rattle.conflict.specs.declared.Sets.{Sets}
 use Rattle.conflict.specs.Pair.{condition, conflicting}
 use Rattle.conflict.specs.Sets.{setsOf}
-use Rattle.conflict.specs.Answer.{listing, heldAfter, exported}
+use Rattle.conflict.specs.Answer.{listing, heldAfter}
 
 -- ---- the pair test: true exactly where no whole number meets both, so one answer
 
@@ -30,9 +28,6 @@ module _ (relation1 : ℕ) (constant1 : ℤ) (relation2 : ℕ) (constant2 : ℤ)
 
   pub one-conflicting : (a b : Bool) → a ≡ conflicting relation1 constant1 relation2 constant2 → b ≡ conflicting relation1 constant1 relation2 constant2 → a ≡ b
   one-conflicting a b p q = p ∙ sym q
-
-  pub one-pair : (a b : ℕ) → a ≡ digit (conflicting relation1 constant1 relation2 constant2) → b ≡ digit (conflicting relation1 constant1 relation2 constant2) → a ≡ b
-  one-pair a b p q = p ∙ sym q
 
 -- ---- the sets, and the number of entries, of a body
 
@@ -49,8 +44,3 @@ module _ (form before : List ℕ) where
       → a ≡ listing form (length before) → x ≡ heldAfter a (conflictBytes (bodyOf form)) before
       → b ≡ listing form (length before) → y ≡ heldAfter b (conflictBytes (bodyOf form)) before → (a ≡ b) × (x ≡ y)
   one-list a b x y p u q v = (p ∙ sym q, u ∙ ap (λ (r : Listed). heldAfter r (conflictBytes (bodyOf form)) before) (p ∙ sym q) ∙ sym v)
-
-  pub one-export : (a b : ListAnswer) (x y : List ℕ)
-      → a ≡ exported (listing form (length before)) → x ≡ heldAfter (listing form (length before)) (conflictBytes (bodyOf form)) before
-      → b ≡ exported (listing form (length before)) → y ≡ heldAfter (listing form (length before)) (conflictBytes (bodyOf form)) before → (a ≡ b) × (x ≡ y)
-  one-export a b x y p u q v = (p ∙ sym q, u ∙ sym v)

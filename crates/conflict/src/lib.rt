@@ -10,7 +10,7 @@ ghost use lib.IntN.{ℤ, pos, _-ℤ_};
 ghost use lib.Signed.{ltZ};
 ghost use lib.Seq.{sets};
 ghost use lib.Count.{ones};
-ghost use Rattle.laws.specs.Terms.{digit, bit, each, range};
+ghost use Rattle.laws.specs.Terms.{bit, each, range};
 ghost use Rattle.form.specs.Form.{when, bodyOf};
 ghost use Rattle.form.specs.Conflict.{noBlock, conflicts, conflictBytes};
 ghost use Rattle.form.specs.Relation.{eqZ, opposite};
@@ -21,7 +21,7 @@ ghost use Rattle.relations.specs.Effects.{Within};
 ghost use Rattle.conflict.specs.Pair.{conflicting};
 ghost use Rattle.conflict.specs.Laying.{entryBytes, wordBytes, edgeBytes};
 ghost use Rattle.conflict.specs.Listing.{allBytes, bitsOf, Rows};
-ghost use Rattle.conflict.specs.Answer.{listedIn, listing, heldAfter, exported};
+ghost use Rattle.conflict.specs.Answer.{listedIn, listing, heldAfter};
 ghost use Rattle.relations.specs.Joined.{target};
 ghost use Rattle.conflict.specs.Sets.{Sound, setsOf};
 ghost use Rattle.conflict.specs.Parts.{blockIn, withParts, TestsOf, TargetsOf, Sizes, HitsOf, EffectRowsOf, AlikeAt, OpposedAt, EitherAt, ListedAt, Above, ReachOf, FirstsOf, OpposedOf, ListedOf, FoundOf};
@@ -92,18 +92,6 @@ pub fn conflicting(relation1: u8, constant1: i32, relation2: u8, constant2: i32)
     )
 }
 
-// The pair test, asked from C: 1 where the two conditions conflict, else 0.
-#[no_mangle]
-pub extern "C" fn conflict_pair(relation1: u8, constant1: i32, relation2: u8, constant2: i32) -> u8
-    ensures { λ r. ⌜ r ≡ digit (conflicting relation1 constant1 relation2 constant2) ⌝ }
-{
-    if conflicting(relation1, constant1, relation2, constant2) {
-        1
-    } else {
-        0
-    }
-}
-
 // ---- blocks and effects as words and lists of numbers
 
 // The tests of a body: which blocks they are, and each block's variable, relation by jump and by fall, and constant.
@@ -119,14 +107,6 @@ struct Tests {
 pub enum Listed {
     Bytes(usize),
     Unlisted { number: u32, place: usize },
-}
-
-// The same for C: number 0 with the bytes written, or the refusal's number and place.
-#[repr(C)]
-pub struct ListAnswer {
-    pub number: u64,
-    pub place: u64,
-    pub bytes: u64,
 }
 
 // Where each block's jump and fall lead; 64 where it has no such way.
@@ -848,29 +828,4 @@ pub fn conflicts(form: &[u8], out: &mut [u8]) -> Listed
             list_of(body, out)
         }
     }
-}
-
-fn answer_of(r: Listed) -> ListAnswer
-    ensures { λ a. ⌜ a ≡ exported r ⌝ }
-{
-    match r {
-        Listed::Bytes(count) => ListAnswer {
-            number: 0,
-            place: 0,
-            bytes: count as u64,
-        },
-        Listed::Unlisted { number, place } => ListAnswer {
-            number: number as u64,
-            place: place as u64,
-            bytes: 0,
-        },
-    }
-}
-
-// The conflict list, asked from C.
-#[no_mangle]
-pub extern "C" fn conflict_list(form: &[u8], out: &mut [u8]) -> ListAnswer
-    ensures { λ r. ⌜ (r ≡ exported (listing (now (form .entry)) (length (now (out .entry))))) × (now (out .exit) ≡ heldAfter (listing (now (form .entry)) (length (now (out .entry)))) (conflictBytes (bodyOf (now (form .entry)))) (now (out .entry))) ⌝ }
-{
-    answer_of(conflicts(form, out))
 }

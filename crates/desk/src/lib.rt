@@ -133,7 +133,11 @@ pub extern "C" fn somniaret_rewrite(bytes: &[u8], out: &mut [u8]) -> FormAnswer
 pub extern "C" fn somniaret_pair(relation1: u8, constant1: i32, relation2: u8, constant2: i32) -> u8
     ensures { λ r. ⌜ r ≡ digit (conflicting relation1 constant1 relation2 constant2) ⌝ }
 {
-    conflict::conflict_pair(relation1, constant1, relation2, constant2)
+    if conflict::conflicting(relation1, constant1, relation2, constant2) {
+        1
+    } else {
+        0
+    }
 }
 
 fn of_listed(listed: Listed) -> ListNumbers
