@@ -10,7 +10,7 @@ ghost use Rattle.conflict.specs.Answer.{listing, heldAfter};
 ghost use Rattle.counter.specs.Answer.{Owed};
 ghost use Rattle.routes.specs.WalkAnswer.{said, WalkOwed};
 ghost use Rattle.routes.specs.SweepAnswer.{SweepOwed};
-ghost use Rattle.desk.specs.Answer.{countValues, walkValues, sweepValues, sweepSaid, sweepOutcome, OwnSweepOwed, listNumbers, formAnswer, verdictAnswer, writtenAnswer, rewriteAnswer, rewriteHeld};
+ghost use Rattle.desk.specs.Answer.{countValues, walkNumbers, walkValues, sweepNumbers, sweepValues, sweepSaid, sweepOutcome, OwnSweepOwed, listNumbers, formAnswer, verdictAnswer, writtenAnswer, rewriteAnswer, rewriteHeld};
 use conflict::Listed;
 use counter::Counted;
 use form::Verdict;
@@ -165,6 +165,26 @@ pub extern "C" fn somniaret_conflicts(bytes: &[u8], out: &mut [u8]) -> ListNumbe
     of_listed(conflict::conflicts(bytes, out))
 }
 
+fn walk_numbers(
+    number: u64,
+    place: u64,
+    iterations: u64,
+    weight: u64,
+    bound: u64,
+    walked: u64,
+) -> WalkNumbers
+    ensures { λ r. ⌜ r ≡ walkNumbers number place iterations weight bound walked ⌝ }
+{
+    WalkNumbers {
+        number,
+        place,
+        iterations,
+        weight,
+        bound,
+        walked,
+    }
+}
+
 fn of_walk(walk: WalkAnswer) -> WalkNumbers
     ensures { λ r. ⌜ walkValues r ≡ said walk ⌝ }
 {
@@ -174,22 +194,10 @@ fn of_walk(walk: WalkAnswer) -> WalkNumbers
             weight,
             bound,
             walked,
-        } => WalkNumbers {
-            number: 0,
-            place: 0,
-            iterations,
-            weight,
-            bound,
-            walked,
-        },
-        WalkAnswer::Refused { number, place } => WalkNumbers {
-            number: number as u64,
-            place: place as u64,
-            iterations: 0,
-            weight: 0,
-            bound: 0,
-            walked: 0,
-        },
+        } => walk_numbers(0, 0, iterations, weight, bound, walked),
+        WalkAnswer::Refused { number, place } => {
+            walk_numbers(number as u64, place as u64, 0, 0, 0, 0)
+        }
     }
 }
 
@@ -201,6 +209,26 @@ pub extern "C" fn somniaret_walk(bytes: &[u8], budget: u32, route: &mut [u8]) ->
     of_walk(routes::walk::walk(bytes, budget, route))
 }
 
+fn sweep_numbers(
+    number: u64,
+    place: u64,
+    iterations: u64,
+    weight: u64,
+    bound: u64,
+    kept: u64,
+) -> SweepNumbers
+    ensures { λ r. ⌜ r ≡ sweepNumbers number place iterations weight bound kept ⌝ }
+{
+    SweepNumbers {
+        number,
+        place,
+        iterations,
+        weight,
+        bound,
+        kept,
+    }
+}
+
 fn of_sweep(sweep: SweepAnswer) -> SweepNumbers
     ensures { λ r. ⌜ sweepValues r ≡ sweepSaid sweep ⌝ }
 {
@@ -210,22 +238,10 @@ fn of_sweep(sweep: SweepAnswer) -> SweepNumbers
             weight,
             bound,
             kept,
-        } => SweepNumbers {
-            number: 0,
-            place: 0,
-            iterations,
-            weight,
-            bound,
-            kept,
-        },
-        SweepAnswer::Refused { number, place } => SweepNumbers {
-            number: number as u64,
-            place: place as u64,
-            iterations: 0,
-            weight: 0,
-            bound: 0,
-            kept: 0,
-        },
+        } => sweep_numbers(0, 0, iterations, weight, bound, kept),
+        SweepAnswer::Refused { number, place } => {
+            sweep_numbers(number as u64, place as u64, 0, 0, 0, 0)
+        }
     }
 }
 
