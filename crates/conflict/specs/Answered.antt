@@ -1,20 +1,17 @@
--- From the reader's answer to the list's: a refusal as it is, and of an accepted form its body. Rests on Answer and relations.Accepted.
-use mathlib.Core.Path.{_≡_, refl, sym, ap, subst, _∙_}
-use mathlib.Core.Bool.{Bool, true, false}
+-- From the reader's answer to the list's: a refusal as it is, and of an accepted form its body. Rests on Answer and roundtrip.Sound.
+use mathlib.Core.Path.{_≡_, sym, ap, subst, _∙_}
 use mathlib.Core.List.{List}
 use Prim.Native.Nat.{ℕ}
-use lib.ListN.{length}
 use Rattle.form.specs.declared.Body.{Body}
 use Rattle.form.specs.declared.Reading.{Reading}
 use Rattle.form.specs.declared.Verdict.{Verdict}
 use Rattle.form.specs.declared.Verdict.the-variants.{Accepted, Refused}
 use Rattle.form.specs.Form.{when, judge, bodyOf, zeroBody}
 use Rattle.form.specs.Answer.{accepted, reading}
-use Rattle.form.specs.Conflict.{conflictBytes}
-use Rattle.relations.specs.Accepted.{accepted-few, accepted-onward}
+use Rattle.form.specs.Conflict.{Sound, conflictBytes}
+use Rattle.roundtrip.specs.Sound.{sound}
 use Rattle.conflict.specs.declared.Listed.{Listed}
-use Rattle.conflict.specs.declared.Listed.the-variants.{Bytes, Unlisted}
-use Rattle.conflict.specs.Sets.{Sound}
+use Rattle.conflict.specs.declared.Listed.the-variants.{Unlisted}
 use Rattle.conflict.specs.Answer.{asJudged, listedIn, listing, heldAfter}
 
 module _ (s : List ℕ) (r : Reading) (is : r ≡ reading s) where
@@ -25,8 +22,8 @@ module _ (s : List ℕ) (r : Reading) (is : r ≡ reading s) where
     body-is : r .body ≡ bodyOf s
     body-is = ap (λ (r : Reading). r .body) is ∙ ap (λ (v : Verdict). when (accepted v) (bodyOf s) zeroBody) (judged-as Accepted ok)
 
-    pub sound : Sound (r .body)
-    sound = subst Sound (sym body-is) (record { few = accepted-few s (judged-as Accepted ok); onward = accepted-onward s (judged-as Accepted ok) })
+    pub read-sound : Sound (r .body)
+    read-sound = subst Sound (sym body-is) (sound s (judged-as Accepted ok))
 
     pub listed-as : (room : ℕ) (a : Listed) (out after : List ℕ) → a ≡ listedIn (r .body) room → after ≡ heldAfter a (conflictBytes (r .body)) out
         → (a ≡ listing s room) × (after ≡ heldAfter a (conflictBytes (bodyOf s)) out)

@@ -10,5 +10,3 @@ pub mod Laying
 pub mod Listing
 pub mod Answered
 pub mod Uniqueness
-pub mod SetBits
-pub mod Marked

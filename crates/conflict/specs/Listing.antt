@@ -1,28 +1,28 @@
 -- The list's bytes and its number of entries from the firsts of the edges: the bytes that the loops lay out are those of the conflict list. Rests on Laying, Parts and
 -- relations.Joined.
-use mathlib.Core.Path.{_≡_, refl, sym, ap, ap₂, subst, _∙_}
-use mathlib.Core.Bool.{Bool, true, false, cond, _||_, _&&_}
+use mathlib.Core.Path.{_≡_, refl, sym, ap, ap₂, _∙_}
+use mathlib.Core.Bool.{Bool, true, false, cond}
 use mathlib.Core.List.{List, [], _∷_, _++_, append-nil}
-use Prim.Native.Nat.{ℕ, zero, suc, _+_, _*_, _^_, _≤_, _<_}
+use Prim.Native.Nat.{ℕ, _+_, _*_, _≤_, _<_}
 use native.Mathlib.Nat.{zero-add}
 use native.Mathlib.Omega.{arith}
 use lib.Count.{ones}
 use lib.ListN.{length, getD, drop, length-append}
 use lib.Seq.{sets, sets-eq}
-use Rattle.laws.specs.Terms.{Mem, digit, bit, each, range, setOf}
+use Rattle.laws.specs.Terms.{digit, bit, each, range}
 use Rattle.laws.specs.Lists.{each-same, each-append, range-out}
-use Rattle.laws.specs.Sets.{bit-none, bit-setOf, bit-setOf-beyond, below-or-not, setOf-lt}
-use Rattle.words.specs.Filled.{Told, same-bits, bits-fit}
+use Rattle.laws.specs.Sets.{bit-none}
+use Rattle.words.specs.Filled.{Told, bits-fit}
 use Rattle.words.specs.Sums.{sum, sum-same, sum-add, ones-sum, length-each}
 use Rattle.form.specs.declared.Body.{Body}
-use Rattle.form.specs.Conflict.{Edge, Pair, block, condition, assigned, assignmentPair, edgePair, opposes, denies, conflicts, conflictBytes}
+use Rattle.form.specs.Conflict.{Edge, Pair, block, condition, assigned, assignmentPair, edgePair, conflicts, conflictBytes}
 use Rattle.relations.specs.Joined.{byJump, byFall, edgePairs, past-count, denies-none, no-test, opposes-first, assigned-none, jump-none, fall-none, conflicts-by-edge}
 use borrow.Author.Tests.{lt-ltb, le-ltb}
 use Rattle.conflict.specs.declared.Listed.the-variants.{Bytes, Unlisted}
 use Rattle.conflict.specs.Answer.{listedIn}
 use Rattle.conflict.specs.declared.Firsts.{Firsts}
 use Rattle.conflict.specs.Parts.{FirstsBy}
-use Rattle.conflict.specs.Laying.{entryBytes, turnBytes, wordBytes, edgeBytes, Laid, laid-next, laid-room}
+use Rattle.conflict.specs.Laying.{entryBytes, wordBytes, edgeBytes, Laid, laid-next, laid-room}
 
 abbrev pairBytes : Pair → List ℕ
 pairBytes p = p .kind ∷ p .first ∷ p .third ∷ p .second ∷ p .outcome ∷ []

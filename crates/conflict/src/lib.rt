@@ -1,29 +1,27 @@
 // The conflicts of document 01: the pair test, the sets of edges that the walks need, and the conflict list. Each call answers for all bytes; the
 // meaning of each is in specs/ and in form's Conflict.
 ghost use mathlib.Core.Path.{_≡_};
-ghost use mathlib.Core.List.{_++_};
-ghost use mathlib.Core.Bool.{_&&_, _||_, not};
+ghost use mathlib.Core.Bool.{_&&_, not};
 ghost use Prim.Native.Nat.{ℕ, _+_, _≤_, _<_};
 ghost use lib.Dec.{eqb, ltb};
 ghost use lib.ListN.{length, getD, take, drop};
-ghost use lib.IntN.{ℤ, pos, _-ℤ_};
+ghost use lib.IntN.{pos};
 ghost use lib.Signed.{ltZ};
 ghost use lib.Seq.{sets};
 ghost use lib.Count.{ones};
-ghost use Rattle.laws.specs.Terms.{bit, each, range};
+ghost use Rattle.laws.specs.Terms.{bit};
 ghost use Rattle.form.specs.Form.{when, bodyOf};
-ghost use Rattle.form.specs.Conflict.{noBlock, conflicts, conflictBytes};
-ghost use Rattle.form.specs.Relation.{eqZ, opposite};
+ghost use Rattle.form.specs.Conflict.{noBlock, Sound, conflicts, conflictBytes};
+ghost use Rattle.form.specs.Relation.{opposite};
 ghost use Rattle.relations.specs.PairTest.{low, level, high, apart, someOf, shares};
 ghost use Rattle.words.specs.Filled.{Told};
-ghost use Rattle.words.specs.Sums.{sum};
 ghost use Rattle.relations.specs.Effects.{Within};
 ghost use Rattle.conflict.specs.Pair.{conflicting};
 ghost use Rattle.conflict.specs.Laying.{entryBytes, wordBytes, edgeBytes};
 ghost use Rattle.conflict.specs.Listing.{allBytes, bitsOf, Rows};
 ghost use Rattle.conflict.specs.Answer.{listedIn, listing, heldAfter};
 ghost use Rattle.relations.specs.Joined.{target};
-ghost use Rattle.conflict.specs.Sets.{Sound, setsOf};
+ghost use Rattle.conflict.specs.Sets.{setsOf};
 ghost use Rattle.conflict.specs.Parts.{blockIn, withParts, TestsOf, TargetsOf, Sizes, HitsOf, EffectRowsOf, AlikeAt, OpposedAt, EitherAt, ListedAt, Above, ReachOf, FirstsOf, OpposedOf, ListedOf, FoundOf};
 
 // ---- the pair test: constants are compared, never subtracted

@@ -1,11 +1,8 @@
 -- `conflict::all_entries` meets its contract. The loop's invariant: the entries of the blocks below s stand from the first byte on. The measure is what is left of the 64.
-use mathlib.Core.Path.{_≡_, refl}
-use mathlib.Core.List.{List}
-use Prim.Native.Nat.{ℕ, _+_, _-_, _≤_}
+use Prim.Native.Nat.{_-_, _≤_}
 use native.Mathlib.Omega.{arith}
-use lib.ListN.{length, getD}
 use Rattle.laws.specs.Terms.{each, range}
-use Rattle.conflict.specs.Laying.{edgeBytes, Laid, laid-none, laid-next, laid-room, laid-length}
+use Rattle.conflict.specs.Laying.{Laid, laid-none, laid-length}
 use Rattle.conflict.specs.Listing.{blockBytes, all-room, all-next, all-done}
 use Rattle.conflict.proofs.all_entries.Statement.{statement}
 use Rattle.conflict.proofs.all_entries.Tie as tie

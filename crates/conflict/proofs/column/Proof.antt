@@ -1,10 +1,7 @@
 -- `conflict::column` meets its contract. The loop's invariant: the word has the column's bits below j. The measure is what is left of the 64.
-use mathlib.Core.Path.{_≡_, sym, ap, _∙_}
-use mathlib.Core.Bool.{Bool, _&&_, _||_, not}
-use Prim.Native.Nat.{ℕ, _-_, _≤_}
+use Prim.Native.Nat.{_-_, _≤_}
 use native.Mathlib.Omega.{arith}
-use lib.Dec.{eqb}
-use lib.ListN.{getD, length}
+use lib.ListN.{getD}
 use Rattle.laws.specs.Terms.{bit}
 use Rattle.laws.specs.Sets.{bit-none}
 use Rattle.relations.specs.Blocks.{beyond}

@@ -1,5 +1,4 @@
 -- `conflict::conflicting` meets its contract.
-use mathlib.Core.Path.{ap, sym, _∙_}
 use mir.Facts.{toZ-ofZ}
 use Rattle.relations.specs.PairTest.{shares, test-is}
 use borrow.Author.Needs.{needs}

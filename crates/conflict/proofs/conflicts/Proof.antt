@@ -1,14 +1,6 @@
 -- `conflict::conflicts` meets its contract.
-use mathlib.Core.Path.{_≡_, refl, sym, ap, subst, _∙_}
-use mathlib.Core.List.{List}
-use Prim.Native.Nat.{ℕ}
-use lib.ListN.{length}
-use Rattle.form.specs.declared.Body.{Body}
-use Rattle.form.specs.declared.Verdict.{Verdict}
-use Rattle.form.specs.declared.Verdict.the-variants.{Accepted, Refused}
-use Rattle.form.specs.Form.{judge, bodyOf}
-use Rattle.form.specs.Conflict.{conflictBytes}
-use Rattle.conflict.specs.Answered.{sound, listed-as, refused-as}
+use mathlib.Core.Path.{refl}
+use Rattle.conflict.specs.Answered.{read-sound, listed-as, refused-as}
 use borrow.Author.Needs.{needs}
 use Rattle.conflict.proofs.conflicts.Statement.{statement}
 use Rattle.conflict.proofs.conflicts.Tie as tie
@@ -25,7 +17,7 @@ enum-told c = search needs
 list-of-requires : tie.Need-list-of-requires
 list-of-requires c κs =
     let read = c .before .before .before .before in
-    sound (read .before .before .before .args .form .now) _ (read .read .ensures) (c .before .before .enum-told .given .1)
+    read-sound (read .before .before .before .args .form .now) _ (read .read .ensures) (c .before .before .enum-told .given .1)
 
 returns : tie.Need-returns
 returns c =

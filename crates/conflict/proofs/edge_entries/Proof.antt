@@ -1,9 +1,5 @@
 -- `conflict::edge_entries` meets its contract.
-use mathlib.Core.Path.{_≡_, sym, ap, _∙_}
-use Prim.Native.Nat.{ℕ, _+_}
 use native.Mathlib.Omega.{arith}
-use lib.ListN.{length, length-append}
-use lib.Seq.{sets}
 use Rattle.conflict.specs.Laying.{edge-length, edge-done}
 use borrow.Author.Needs.{needs}
 use Rattle.conflict.proofs.edge_entries.Statement.{statement}

@@ -1,12 +1,8 @@
 -- `conflict::entries` meets its contract. The loop's invariant: the entries of the blocks below f stand from `start` on. The measure is what is left of the 64.
-use mathlib.Core.Path.{_≡_, refl, sym, ap, _∙_}
-use mathlib.Core.Bool.{Bool}
-use mathlib.Core.List.{List, _++_}
-use Prim.Native.Nat.{ℕ, _+_, _-_, _≤_}
+use Prim.Native.Nat.{_-_, _≤_}
 use native.Mathlib.Omega.{arith}
-use lib.ListN.{length}
-use Rattle.laws.specs.Terms.{bit, each, range}
-use Rattle.conflict.specs.Laying.{entryBytes, turnBytes, wordBytes, Laid, laid-none, laid-length, turn-room, turn-next, word-done}
+use Rattle.laws.specs.Terms.{each, range}
+use Rattle.conflict.specs.Laying.{turnBytes, Laid, laid-none, laid-length, turn-room, turn-next, word-done}
 use borrow.Author.Needs.{needs}
 use Rattle.conflict.proofs.entries.Statement.{statement}
 use Rattle.conflict.proofs.entries.Tie as tie

@@ -1,8 +1,7 @@
 -- `conflict::entry` meets its contract.
-use mathlib.Core.Path.{_≡_, refl, sym, ap, _∙_}
-use mathlib.Core.Bool.{Bool, true, false, not}
+use mathlib.Core.Path.{refl}
 use native.Mathlib.Omega.{arith}
-use lib.ListN.{length, length-set}
+use lib.ListN.{length-set}
 use Rattle.conflict.specs.Laying.{five}
 use borrow.Author.Tests.{not-true, not-false}
 use borrow.Author.Needs.{needs}

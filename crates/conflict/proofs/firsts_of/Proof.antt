@@ -1,11 +1,9 @@
 -- `conflict::firsts_of` meets its contract. The loop's invariant: the rows below s are right. The measure is what is left of the 64.
-use mathlib.Core.Path.{_≡_, refl, ap, ap₂, _∙_}
+use mathlib.Core.Path.{refl, ap, ap₂, _∙_}
 use mathlib.Core.Bool.{Bool, _&&_, _||_}
-use Prim.Native.Nat.{ℕ, _-_, _≤_}
+use Prim.Native.Nat.{_-_, _≤_}
 use native.Mathlib.Omega.{arith}
 use lib.Dec.{eqb}
-use lib.ListN.{getD}
-use Rattle.laws.specs.Terms.{bit}
 use Rattle.words.specs.Filled.{Told, told-none, told-more, told-end}
 use Rattle.conflict.specs.Parts.{AssignedAt, ByJumpAt, ByFallAt}
 use borrow.Author.Needs.{needs}

@@ -1,11 +1,11 @@
 -- `conflict::list_of` meets its contract.
-use mathlib.Core.Path.{_≡_, refl, sym, ap, subst, _∙_}
-use mathlib.Core.List.{List, _++_}
-use Prim.Native.Nat.{ℕ, _+_, _*_, _≤_}
+use mathlib.Core.Path.{refl, ap, _∙_}
+use mathlib.Core.List.{List}
+use Prim.Native.Nat.{ℕ, _+_}
 use native.Mathlib.Omega.{arith}
-use lib.ListN.{length, drop}
+use lib.ListN.{length}
 use lib.Seq.{sets}
-use Rattle.form.specs.Conflict.{conflicts, conflictBytes}
+use Rattle.form.specs.Conflict.{conflictBytes}
 use Rattle.conflict.specs.Listing.{number-is, bytes-are, too-few, enough, has-room, from-start}
 use borrow.Author.Needs.{needs}
 use Rattle.conflict.proofs.list_of.Statement.{statement}

@@ -1,10 +1,10 @@
 -- `conflict::on_variable` meets its contract. The loop's invariant: the word has the tests below j on v. The measure is what is left of the 64.
-use mathlib.Core.Path.{_≡_, sym, ap, _∙_}
-use mathlib.Core.Bool.{Bool, _&&_, _||_, not}
-use Prim.Native.Nat.{ℕ, _-_, _≤_}
+use mathlib.Core.Path.{ap}
+use mathlib.Core.Bool.{Bool, _&&_}
+use Prim.Native.Nat.{_-_, _≤_}
 use native.Mathlib.Omega.{arith}
 use lib.Dec.{eqb}
-use lib.ListN.{getD, length}
+use lib.ListN.{getD}
 use Rattle.laws.specs.Terms.{bit}
 use Rattle.laws.specs.Sets.{bit-beyond}
 use Rattle.words.specs.Filled.{Upto, upto-none, upto-more, upto-end}
