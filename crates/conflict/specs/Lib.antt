@@ -1,12 +1,7 @@
 -- The definitions that the contracts of the conflicts cite, and what they leave.
-pub mod Pair
 pub mod Sets
-pub mod Answer
 pub mod Parts
 pub mod Turns
 pub mod Reaching
 pub mod Finding
-pub mod Laying
-pub mod Listing
-pub mod Answered
 pub mod Uniqueness

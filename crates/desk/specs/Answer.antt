@@ -13,8 +13,8 @@ use Rattle.routes.specs.SweepAnswer as Sweep
 use Rattle.routes.specs.declared.sweep.SweepAnswer.{SweepAnswer}
 use Rattle.desk.specs.declared.CountAnswer.{CountAnswer}
 use Rattle.desk.specs.declared.FormAnswer.{FormAnswer}
-use Rattle.conflict.specs.declared.Listed.{Listed}
-use Rattle.conflict.specs.Answer as Conflict
+use Rattle.listing.specs.declared.Listed.{Listed}
+use Rattle.listing.specs.Answer as Conflict
 use Rattle.desk.specs.declared.ListNumbers.{ListNumbers}
 use Rattle.desk.specs.declared.SweepNumbers.{SweepNumbers}
 use Rattle.desk.specs.declared.WalkNumbers.{WalkNumbers}

@@ -9,8 +9,8 @@ use Rattle.counter.specs.Uniqueness.{owed-once}
 use Rattle.form.specs.Form.{judge, bodyOf}
 use Rattle.form.specs.Conflict.{conflictBytes}
 use Rattle.laws.specs.Terms.{digit}
-use Rattle.conflict.specs.Pair.{conflicting}
-use Rattle.conflict.specs.Answer as Conflict
+use Rattle.pair.specs.Pair.{conflicting}
+use Rattle.listing.specs.Answer as Conflict
 use Rattle.routes.specs.Accepted as Routes
 use Rattle.routes.specs.WalkAnswer as Walk
 use Rattle.routes.specs.SweepAnswer as Sweep

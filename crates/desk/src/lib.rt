@@ -5,16 +5,16 @@ ghost use lib.ListN.{length};
 ghost use Rattle.laws.specs.Terms.{digit};
 ghost use Rattle.form.specs.Form.{judge, bodyOf};
 ghost use Rattle.form.specs.Conflict.{conflictBytes};
-ghost use Rattle.conflict.specs.Pair.{conflicting};
-ghost use Rattle.conflict.specs.Answer.{listing, heldAfter};
+ghost use Rattle.pair.specs.Pair.{conflicting};
+ghost use Rattle.listing.specs.Answer.{listing, heldAfter};
 ghost use Rattle.counter.specs.Answer.{Owed};
 ghost use Rattle.routes.specs.WalkAnswer.{said, WalkOwed};
 ghost use Rattle.routes.specs.SweepAnswer.{SweepOwed};
 ghost use Rattle.desk.specs.Answer.{countValues, walkNumbers, walkValues, sweepNumbers, sweepValues, sweepSaid, sweepOutcome, OwnSweepOwed, listNumbers, formAnswer, verdictAnswer, writtenAnswer, rewriteAnswer, rewriteHeld};
-use conflict::Listed;
 use counter::Counted;
 use form::Verdict;
 use form::Written;
+use listing::Listed;
 use routes::sweep::SweepAnswer;
 use routes::walk::WalkAnswer;
 
@@ -133,7 +133,7 @@ pub extern "C" fn somniaret_rewrite(bytes: &[u8], out: &mut [u8]) -> FormAnswer
 pub extern "C" fn somniaret_pair(relation1: u8, constant1: i32, relation2: u8, constant2: i32) -> u8
     ensures { λ r. ⌜ r ≡ digit (conflicting relation1 constant1 relation2 constant2) ⌝ }
 {
-    if conflict::conflicting(relation1, constant1, relation2, constant2) {
+    if pair::conflicting(relation1, constant1, relation2, constant2) {
         1
     } else {
         0
@@ -162,7 +162,7 @@ fn of_listed(listed: Listed) -> ListNumbers
 pub extern "C" fn somniaret_conflicts(bytes: &[u8], out: &mut [u8]) -> ListNumbers
     ensures { λ r. ⌜ (r ≡ listNumbers (listing (now (bytes .entry)) (length (now (out .entry))))) × (now (out .exit) ≡ heldAfter (listing (now (bytes .entry)) (length (now (out .entry)))) (conflictBytes (bodyOf (now (bytes .entry)))) (now (out .entry))) ⌝ }
 {
-    of_listed(conflict::conflicts(bytes, out))
+    of_listed(listing::conflicts(bytes, out))
 }
 
 fn walk_numbers(
