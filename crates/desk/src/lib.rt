@@ -125,7 +125,7 @@ pub extern "C" fn somniaret_rewrite(bytes: &[u8], out: &mut [u8]) -> FormAnswer
         return of_verdict(verdict);
     }
     let body = reading.body;
-    of_written(form::write(body, out))
+    of_written(writer::write(body, out))
 }
 
 // Whether two conditions on one variable conflict: 1, or 0 where some whole number meets both.

@@ -1,8 +1,8 @@
--- `form::counter_bytes` meets its contract.
+-- `writer::counter_bytes` meets its contract.
 use borrow.Author.Needs.{needs}
 use Rattle.laws.specs.Complement.{field-bits}
-use Rattle.form.proofs.counter_bytes.Statement.{statement}
-use Rattle.form.proofs.counter_bytes.Tie as tie
+use Rattle.writer.proofs.counter_bytes.Statement.{statement}
+use Rattle.writer.proofs.counter_bytes.Tie as tie
 
 returns : tie.Need-returns
 returns c =

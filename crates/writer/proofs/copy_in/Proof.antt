@@ -1,12 +1,12 @@
--- `form::copy_in` meets its contract. The loop's invariant: the first j bytes are pasted in. The measure is what is left of the bytes.
+-- `writer::copy_in` meets its contract. The loop's invariant: the first j bytes are pasted in. The measure is what is left of the bytes.
 use mathlib.Core.Path.{_≡_, sym, ap, _∙_}
 use Prim.Native.Nat.{ℕ, suc, _≤_, _-_, _+_}
 use native.Mathlib.Numerals.{add-one}
 use native.Mathlib.Omega.{arith}
 use lib.ListN.{length, length-set}
 use lib.Seq.{paste, paste-zero, paste-suc, length-paste}
-use Rattle.form.proofs.copy_in.Statement.{statement}
-use Rattle.form.proofs.copy_in.Tie as tie
+use Rattle.writer.proofs.copy_in.Statement.{statement}
+use Rattle.writer.proofs.copy_in.Tie as tie
 
 abbrev Inv-loop : tie.InvT-loop
 Inv-loop out₀ at bytes j₀ out j = (out ≡ paste out₀ at bytes j) × ((j ≤ length bytes) × (length out ≡ length out₀))

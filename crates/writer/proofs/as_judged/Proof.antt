@@ -1,7 +1,7 @@
--- `form::as_judged` meets its contract.
+-- `writer::as_judged` meets its contract.
 use borrow.Author.Needs.{needs}
-use Rattle.form.proofs.as_judged.Statement.{statement}
-use Rattle.form.proofs.as_judged.Tie as tie
+use Rattle.writer.proofs.as_judged.Statement.{statement}
+use Rattle.writer.proofs.as_judged.Tie as tie
 
 returns-2 : tie.Need-returns-2
 returns-2 c = rw (c .before .verdict .given .1)

@@ -1,14 +1,14 @@
--- `form::write` meets its contract, a law of the answer for each way out.
+-- `writer::write` meets its contract, a law of the answer for each way out.
 use mathlib.Core.Path.{_≡_, refl, ap, sym, _∙_}
 use mathlib.Core.Bool.{true}
 use native.Mathlib.Omega.{arith}
 use borrow.Author.Tests.{not-true, not-false}
 use lib.ListN.{length, take}
 use Rattle.form.specs.Form.{judge, lay, countsFit}
 use Rattle.form.specs.Writing.{counts-refused, held-refused, form-refused, room-short, room-enough, pasted-front}
 use borrow.Author.Needs.{needs}
-use Rattle.form.proofs.write.Statement.{statement}
-use Rattle.form.proofs.write.Tie as tie
+use Rattle.writer.proofs.write.Statement.{statement}
+use Rattle.writer.proofs.write.Tie as tie
 
 returns : tie.Need-returns
 returns c = (counts-refused _ _ (sym (c .before .counts-fit .ensures) ∙ not-true _ (c .if1 .taken)), refl)
