@@ -13,7 +13,7 @@ use Rattle.laws.specs.Terms.{digit, bit, each, range}
 use Rattle.laws.specs.Lists.{each-same, each-append, range-out}
 use Rattle.laws.specs.Sets.{bit-none}
 use Rattle.words.specs.Filled.{Told, bits-fit}
-use Rattle.words.specs.Sums.{sum, sum-same, sum-add, ones-sum, length-each}
+use Rattle.laws.specs.Sums.{sum, sum-same, sum-add, ones-sum, length-each}
 use Rattle.form.specs.declared.Body.{Body}
 use Rattle.form.specs.Conflict.{Edge, Pair, block, condition, assigned, assignmentPair, edgePair, conflicts, conflictBytes}
 use Rattle.relations.specs.Joined.{byJump, byFall, edgePairs, past-count, denies-none, no-test, opposes-first, assigned-none, jump-none, fall-none, conflicts-by-edge}
@@ -22,7 +22,8 @@ use Rattle.listing.specs.declared.Listed.the-variants.{Bytes, Unlisted}
 use Rattle.listing.specs.Answer.{listedIn}
 use Rattle.conflict.specs.declared.Firsts.{Firsts}
 use Rattle.conflict.specs.Parts.{FirstsBy}
-use Rattle.listing.specs.Laying.{entryBytes, wordBytes, edgeBytes, Laid, laid-next, laid-room}
+use Rattle.laws.specs.Laid.{Laid, laid-next, laid-room}
+use Rattle.listing.specs.Laying.{entryBytes, wordBytes, edgeBytes}
 
 abbrev pairBytes : Pair → List ℕ
 pairBytes p = p .kind ∷ p .first ∷ p .third ∷ p .second ∷ p .outcome ∷ []
@@ -167,7 +168,7 @@ module _ (before variable a1 j1 f1 a2 j2 f2 out : List ℕ) (at s : ℕ) (l : La
 
   pub all-done : s ≡ 64 → (at ≡ 0 + length (allBytes variable a1 j1 f1 a2 j2 f2)) × (out ≡ sets before 0 (allBytes variable a1 j1 f1 a2 j2 f2))
   unfolding allBytes
-  all-done e = let m = rw e at l in (m .place, m .bytes)
+  all-done e = let m = rw e at l in (m .place, m .held)
 
 -- ---- the answer for a body
 module _ (body : Body) (n room : ℕ) (is : n ≡ length (conflicts body)) where

@@ -1,4 +1,3 @@
 -- What contracts over words say, and what their proofs share.
 pub mod Tabled
 pub mod Filled
-pub mod Sums

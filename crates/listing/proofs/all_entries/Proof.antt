@@ -2,7 +2,7 @@
 use Prim.Native.Nat.{_-_, _≤_}
 use native.Mathlib.Omega.{arith}
 use Rattle.laws.specs.Terms.{each, range}
-use Rattle.listing.specs.Laying.{Laid, laid-none, laid-length}
+use Rattle.laws.specs.Laid.{Laid, laid-none, laid-length}
 use Rattle.listing.specs.Listing.{blockBytes, all-room, all-next, all-done}
 use Rattle.listing.proofs.all_entries.Statement.{statement}
 use Rattle.listing.proofs.all_entries.Tie as tie

@@ -2,7 +2,8 @@
 use Prim.Native.Nat.{_-_, _≤_}
 use native.Mathlib.Omega.{arith}
 use Rattle.laws.specs.Terms.{each, range}
-use Rattle.listing.specs.Laying.{turnBytes, Laid, laid-none, laid-length, turn-room, turn-next, word-done}
+use Rattle.laws.specs.Laid.{Laid, laid-none, laid-length}
+use Rattle.listing.specs.Laying.{turnBytes, turn-room, turn-next, word-done}
 use borrow.Author.Needs.{needs}
 use Rattle.listing.proofs.entries.Statement.{statement}
 use Rattle.listing.proofs.entries.Tie as tie

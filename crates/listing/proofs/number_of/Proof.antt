@@ -4,7 +4,7 @@ use Prim.Native.Nat.{ℕ, _+_, _*_, _-_, _≤_}
 use native.Mathlib.Omega.{arith}
 use lib.Count.{ones}
 use lib.ListN.{getD}
-use Rattle.words.specs.Sums.{sum, sum-none, sum-last}
+use Rattle.laws.specs.Sums.{sum, sum-none, sum-last}
 use borrow.Author.Needs.{needs}
 use Rattle.listing.proofs.number_of.Statement.{statement}
 use Rattle.listing.proofs.number_of.Tie as tie
