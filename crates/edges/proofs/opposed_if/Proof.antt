@@ -1,10 +1,10 @@
--- `conflict::opposed_if` meets its contract.
+-- `edges::opposed_if` meets its contract.
 use mathlib.Core.Path.{_∙_}
 use mir.Facts.{toZ-ofZ}
 use Rattle.relations.specs.PairTest.{test-is}
 use borrow.Author.Needs.{needs}
-use Rattle.conflict.proofs.opposed_if.Statement.{statement}
-use Rattle.conflict.proofs.opposed_if.Tie as tie
+use Rattle.edges.proofs.opposed_if.Statement.{statement}
+use Rattle.edges.proofs.opposed_if.Tie as tie
 
 conflicting-requires : tie.Need-conflicting-requires
 conflicting-requires c κs = search needs

@@ -1,4 +1,4 @@
--- `conflict::opposed` meets its contract. The loop's invariant: the word has those of the set below j. The measure is what is left of the 64.
+-- `edges::opposed` meets its contract. The loop's invariant: the word has those of the set below j. The measure is what is left of the 64.
 use mathlib.Core.Path.{ap, _∙_}
 use mathlib.Core.Bool.{Bool, _&&_, not}
 use Prim.Native.Nat.{_-_, _≤_}
@@ -13,8 +13,8 @@ use Rattle.laws.specs.Sets.{bit-beyond}
 use Rattle.relations.specs.PairTest.{shares}
 use Rattle.words.specs.Filled.{Upto, upto-none, upto-more, upto-end}
 use borrow.Author.Needs.{needs}
-use Rattle.conflict.proofs.opposed.Statement.{statement}
-use Rattle.conflict.proofs.opposed.Tie as tie
+use Rattle.edges.proofs.opposed.Statement.{statement}
+use Rattle.edges.proofs.opposed.Tie as tie
 
 abbrev Inv-loop : tie.InvT-loop
 Inv-loop set relations constants relation constant r₀ j₀ r j =

@@ -1,4 +1,4 @@
--- `conflict::on_variable` meets its contract. The loop's invariant: the word has the tests below j on v. The measure is what is left of the 64.
+-- `edges::on_variable` meets its contract. The loop's invariant: the word has the tests below j on v. The measure is what is left of the 64.
 use mathlib.Core.Path.{ap}
 use mathlib.Core.Bool.{Bool, _&&_}
 use Prim.Native.Nat.{_-_, _≤_}
@@ -9,8 +9,8 @@ use Rattle.laws.specs.Terms.{bit}
 use Rattle.laws.specs.Sets.{bit-beyond}
 use Rattle.words.specs.Filled.{Upto, upto-none, upto-more, upto-end}
 use borrow.Author.Needs.{needs}
-use Rattle.conflict.proofs.on_variable.Statement.{statement}
-use Rattle.conflict.proofs.on_variable.Tie as tie
+use Rattle.edges.proofs.on_variable.Statement.{statement}
+use Rattle.edges.proofs.on_variable.Tie as tie
 
 abbrev Inv-loop : tie.InvT-loop
 Inv-loop tests variable v r₀ j₀ r j = (j ≤ 64) × Upto (λ k. bit tests k && eqb (getD variable k 0) v) j r
