@@ -4,6 +4,7 @@ pub mod Sets
 pub mod Answer
 pub mod Parts
 pub mod Turns
+pub mod Sorting
 pub mod Reaching
 pub mod Finding
 pub mod Laying

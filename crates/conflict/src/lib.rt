@@ -2,7 +2,7 @@
 // meaning of each is in specs/ and in form's Conflict.
 ghost use mathlib.Core.Path.{_≡_};
 ghost use mathlib.Core.List.{_++_};
-ghost use mathlib.Core.Bool.{_&&_, _||_, not};
+ghost use mathlib.Core.Bool.{true, false, _&&_, _||_, not};
 ghost use Prim.Native.Nat.{ℕ, _+_, _≤_, _<_};
 ghost use lib.Dec.{eqb, ltb};
 ghost use lib.ListN.{length, getD, take, drop};
@@ -24,7 +24,7 @@ ghost use Rattle.conflict.specs.Listing.{allBytes, bitsOf, Rows};
 ghost use Rattle.conflict.specs.Answer.{listedIn, listing, heldAfter, exported};
 ghost use Rattle.relations.specs.Joined.{target};
 ghost use Rattle.conflict.specs.Sets.{Sound, setsOf};
-ghost use Rattle.conflict.specs.Parts.{blockIn, withParts, TestsOf, TargetsOf, Sizes, HitsOf, EffectRowsOf, AlikeAt, OpposedAt, EitherAt, ListedAt, Above, ReachOf, FirstsOf, OpposedOf, ListedOf, FoundOf};
+ghost use Rattle.conflict.specs.Parts.{blockIn, withParts, TestsOf, TargetsOf, Sizes, HitsOf, EffectRowsOf, OnVariable, AlikeAt, OpposedAt, EitherAt, ListedAt, LowestFirsts, Above, noReach, ReachOf, FirstsOf, OpposedOf, ListedOf, FoundOf};
 
 // ---- the pair test: constants are compared, never subtracted
 
@@ -241,28 +241,19 @@ fn targets_of(count: usize, blocks: [form::Block; 64]) -> Targets
     Targets { jump, fall }
 }
 
-// The tests on variable v.
-fn on_variable(tests: u64, variable: &[u8], v: u8) -> u64
+// For each variable, the tests on it.
+fn tests_by_variable(tests: u64, variable: &[u8]) -> [u64; 256]
     requires { ⌜ length (now variable) ≡ 64 ⌝ }
-    ensures { λ r. ⌜ ((j : ℕ) → bit r j ≡ bit tests j && eqb (getD (now (variable .entry)) j 0) v) ⌝ }
+    ensures { λ r. ⌜ OnVariable tests (now (variable .entry)) r ⌝ }
 {
-    let mut r = 0;
-    let mut j = 0;
-    while j < 64 {
-        r = words::put(r, j, words::has(tests, j) & (variable[j] == v));
-        j += 1;
+    let mut r = [0; 256];
+    let mut i = 0;
+    while i < 64 {
+        let v = variable[i] as usize;
+        r[v] = words::put(r[v], i, words::has(tests, i));
+        i += 1;
     }
     r
-}
-
-fn opposed_if(asked: bool, relation1: u8, constant1: i32, relation2: u8, constant2: i32) -> bool
-    ensures { λ r. ⌜ r ≡ asked && not (shares relation1 constant1 relation2 constant2) ⌝ }
-{
-    if asked {
-        conflicting(relation1, constant1, relation2, constant2)
-    } else {
-        false
-    }
 }
 
 // Those of the set whose relation to their constant no whole number has together with the relation to the constant.
@@ -271,29 +262,12 @@ fn opposed(set: u64, relations: &[u8], constants: &[i32], relation: u8, constant
     ensures { λ r. ⌜ ((j : ℕ) → bit r j ≡ bit set j && not (shares relation constant (getD (now (relations .entry)) j 0) (getD (now (constants .entry)) j (pos 0)))) ⌝ }
 {
     let mut r = 0;
-    let mut j = 0;
-    while j < 64 {
-        let asked = words::has(set, j);
-        r = words::put(
-            r,
-            j,
-            opposed_if(asked, relation, constant, relations[j], constants[j]),
-        );
-        j += 1;
-    }
-    r
-}
-
-// Column s of a square of bits.
-fn column(rows: &[u64], s: usize) -> u64
-    requires { ⌜ length (now rows) ≡ 64 ⌝ }
-    ensures { λ r. ⌜ ((j : ℕ) → bit r j ≡ bit (getD (now (rows .entry)) j 0) s) ⌝ }
-{
-    let mut r = 0;
-    let mut j = 0;
-    while j < 64 {
-        r = words::put(r, j, words::has(rows[j], s));
-        j += 1;
+    let mut left = set;
+    while left != 0 {
+        let j = words::lowest(left);
+        let against = conflicting(relation, constant, relations[j], constants[j]);
+        r = words::put(r, j, against);
+        left = words::rest(left);
     }
     r
 }
@@ -302,6 +276,7 @@ fn column(rows: &[u64], s: usize) -> u64
 fn hits_of(
     tests: u64,
     variable: &[u8],
+    groups: &[u64],
     jump: &[u8],
     fall: &[u8],
     constant: &[i32],
@@ -309,7 +284,7 @@ fn hits_of(
     from: usize,
     own: usize,
 ) -> Hits
-    requires { ⌜ Sizes (now variable) (now jump) (now fall) (now constant) × (from + own ≤ 256) ⌝ }
+    requires { ⌜ Sizes (now variable) (now jump) (now fall) (now constant) × (OnVariable tests (now variable) (now groups) × (from + own ≤ 256)) ⌝ }
     ensures { λ r. ⌜ HitsOf tests (now (variable .entry)) (now (jump .entry)) (now (fall .entry)) (now (constant .entry)) (take own (drop from effects)) r ⌝ }
 {
     let mut touched = 0;
@@ -319,7 +294,8 @@ fn hits_of(
     while k < own {
         let a = effects[from + k];
         let value = a.constant;
-        let on = on_variable(tests, variable, a.variable);
+        let v = a.variable as usize;
+        let on = groups[v];
         let set = words::only(a.how == 1, on);
         touched = words::either(touched, on);
         by_jump = words::either(
@@ -355,10 +331,12 @@ struct EffectRows {
     fall: [u64; 64],
 }
 
-// The blocks from which a jump, and those from which a fall, leads to a clean path.
+// The blocks from which a jump, and those from which a fall, leads to a clean path to a test; and those whose effects deny the test's edge by one way and
+// from which such a path leads, or which are its own.
 struct Reach {
     jump: u64,
     fall: u64,
+    assigned: u64,
 }
 
 // For each block's edge by one way, the blocks that the conflict list pairs with it as firsts: by assignment, by their jump edge and by their fall edge.
@@ -381,6 +359,7 @@ fn effect_rows(
     requires { ⌜ Sizes (now variable) (now jump) (now fall) (now constant) ⌝ }
     ensures { λ r. ⌜ EffectRowsOf (withParts count blocks effects) tests (now (variable .entry)) (now (jump .entry)) (now (fall .entry)) (now (constant .entry)) r ⌝ }
 {
+    let groups = tests_by_variable(tests, variable);
     let mut touched = [0; 64];
     let mut by_jump = [0; 64];
     let mut by_fall = [0; 64];
@@ -389,7 +368,17 @@ fn effect_rows(
     while b < 64 {
         let k = own_block(count, b, blocks[b]);
         let own = within(from, k.effects);
-        let h = hits_of(tests, variable, jump, fall, constant, effects, from, own);
+        let h = hits_of(
+            tests,
+            variable,
+            &groups,
+            jump,
+            fall,
+            constant,
+            effects,
+            from,
+            own,
+        );
         touched[b] = h.touched;
         by_jump[b] = h.jump;
         by_fall[b] = h.fall;
@@ -407,13 +396,12 @@ fn alike_rows(tests: u64, variable: &[u8]) -> [u64; 64]
     requires { ⌜ length (now variable) ≡ 64 ⌝ }
     ensures { λ r. ⌜ Told 0 (AlikeAt tests (now (variable .entry))) 64 64 r ⌝ }
 {
+    let groups = tests_by_variable(tests, variable);
     let mut r = [0; 64];
     let mut b = 0;
     while b < 64 {
-        r[b] = words::only(
-            words::has(tests, b),
-            on_variable(tests, variable, variable[b]),
-        );
+        let v = variable[b] as usize;
+        r[b] = words::only(words::has(tests, b), groups[v]);
         b += 1;
     }
     r
@@ -433,27 +421,53 @@ fn opposed_rows(alike: &[u64], first: &[u8], second: &[u8], constant: &[i32]) ->
     r
 }
 
-// From which blocks a jump or a fall leads to s by a path that does not touch test s: the blocks from s down.
-fn reach_of(jump: &[usize], fall: &[usize], touched: &[u64], s: usize) -> Reach
-    requires { ⌜ ((length (now jump) ≡ 64) × ((length (now fall) ≡ 64) × (length (now touched) ≡ 64))) × ((s < 64) × (Above (now jump) × Above (now fall))) ⌝ }
-    ensures { λ r. ⌜ ReachOf (now (jump .entry)) (now (fall .entry)) (now (touched .entry)) s r ⌝ }
+// From which blocks a jump or a fall leads to s by a path that does not touch test s, and which assign against its edge: the blocks from s down.
+fn reach_of(jump: &[usize], fall: &[usize], touched: &[u64], denied: &[u64], s: usize) -> Reach
+    requires { ⌜ ((length (now jump) ≡ 64) × ((length (now fall) ≡ 64) × ((length (now touched) ≡ 64) × (length (now denied) ≡ 64)))) × ((s < 64) × (Above (now jump) × Above (now fall))) ⌝ }
+    ensures { λ r. ⌜ ReachOf (now (jump .entry)) (now (fall .entry)) (now (touched .entry)) (now (denied .entry)) s r ⌝ }
 {
     let mut clean = 0;
     let mut by_jump = 0;
     let mut by_fall = 0;
+    let mut assigned = 0;
     let mut b = s + 1;
     while b > 0 {
         b -= 1;
         let j = words::has(clean, jump[b]);
         let f = words::has(clean, fall[b]);
         let t = words::has(touched[b], s);
+        let d = words::has(denied[b], s);
         by_jump = words::put(by_jump, b, j);
         by_fall = words::put(by_fall, b, f);
+        assigned = words::put(assigned, b, d & ((j | f) | (b == s)));
         clean = words::put(clean, b, !t & ((b == s) | (j | f)));
     }
     Reach {
         jump: by_jump,
         fall: by_fall,
+        assigned,
+    }
+}
+
+// The same where s is a test; nothing where it is none.
+fn reach_if(
+    test: bool,
+    jump: &[usize],
+    fall: &[usize],
+    touched: &[u64],
+    denied: &[u64],
+    s: usize,
+) -> Reach
+    requires { ⌜ ((length (now jump) ≡ 64) × ((length (now fall) ≡ 64) × ((length (now touched) ≡ 64) × (length (now denied) ≡ 64)))) × ((s < 64) × (Above (now jump) × Above (now fall))) ⌝ }
+    ensures { λ r. ⌜ (test ≡ true → ReachOf (now (jump .entry)) (now (fall .entry)) (now (touched .entry)) (now (denied .entry)) s r) × (test ≡ false → r ≡ noReach) ⌝ }
+{
+    if test {
+        return reach_of(jump, fall, touched, denied, s);
+    }
+    Reach {
+        jump: 0,
+        fall: 0,
+        assigned: 0,
     }
 }
 
@@ -471,17 +485,34 @@ fn all_firsts(assigned: &[u64], jump: &[u64], fall: &[u64]) -> [u64; 64]
     r
 }
 
+// For each block, those whose lowest first it is.
+fn lowest_firsts(firsts: &[u64]) -> [u64; 64]
+    requires { ⌜ length (now firsts) ≡ 64 ⌝ }
+    ensures { λ r. ⌜ LowestFirsts (now (firsts .entry)) r ⌝ }
+{
+    let mut r = [0; 64];
+    let mut s = 0;
+    while s < 64 {
+        let all = firsts[s];
+        let f = words::lowest(all);
+        r[f] = words::put(r[f], s, all != 0);
+        s += 1;
+    }
+    r
+}
+
 // For each b, those that have a first below b.
 fn listed_rows(firsts: &[u64]) -> [u64; 64]
     requires { ⌜ length (now firsts) ≡ 64 ⌝ }
     ensures { λ r. ⌜ Told 0 (ListedAt (now (firsts .entry))) 64 64 r ⌝ }
 {
+    let lowest = lowest_firsts(firsts);
     let mut r = [0; 64];
     let mut all = 0;
     let mut b = 0;
     while b < 64 {
         r[b] = all;
-        all = words::either(all, column(firsts, b));
+        all = words::either(all, lowest[b]);
         b += 1;
     }
     r
@@ -489,6 +520,7 @@ fn listed_rows(firsts: &[u64]) -> [u64; 64]
 
 // The firsts of the edges by one way, from the edges that each block's effects deny and those that each edge opposes, by jump and by fall.
 fn firsts_of(
+    tests: u64,
     jump: &[usize],
     fall: &[usize],
     touched: &[u64],
@@ -497,16 +529,15 @@ fn firsts_of(
     falling: &[u64],
 ) -> Firsts
     requires { ⌜ ((length (now jump) ≡ 64) × ((length (now fall) ≡ 64) × (length (now touched) ≡ 64))) × (((length (now denied) ≡ 64) × ((length (now jumping) ≡ 64) × (length (now falling) ≡ 64))) × (Above (now jump) × Above (now fall))) ⌝ }
-    ensures { λ r. ⌜ FirstsOf (now (jump .entry)) (now (fall .entry)) (now (touched .entry)) (now (denied .entry)) (now (jumping .entry)) (now (falling .entry)) r ⌝ }
+    ensures { λ r. ⌜ FirstsOf tests (now (jump .entry)) (now (fall .entry)) (now (touched .entry)) (now (denied .entry)) (now (jumping .entry)) (now (falling .entry)) r ⌝ }
 {
     let mut assigned = [0; 64];
     let mut jumps = [0; 64];
     let mut falls = [0; 64];
     let mut s = 0;
     while s < 64 {
-        let r = reach_of(jump, fall, touched, s);
-        let near = words::with(words::either(r.jump, r.fall), s);
-        assigned[s] = words::both(column(denied, s), near);
+        let r = reach_if(words::has(tests, s), jump, fall, touched, denied, s);
+        assigned[s] = r.assigned;
         jumps[s] = words::both(jumping[s], r.jump);
         falls[s] = words::both(falling[s], r.fall);
         s += 1;
@@ -574,16 +605,16 @@ fn effects_by(
     )
 }
 
-fn firsts_by(to: Targets, e: EffectRows, denied: [u64; 64], opposed: Edges) -> Firsts
+fn firsts_by(tests: u64, to: Targets, e: EffectRows, denied: [u64; 64], opposed: Edges) -> Firsts
     requires { ⌜ ((length (to .jump) ≡ 64) × ((length (to .fall) ≡ 64) × (length (e .touched) ≡ 64))) × (((length denied ≡ 64) × ((length (opposed .jump) ≡ 64) × (length (opposed .fall) ≡ 64))) × (Above (to .jump) × Above (to .fall))) ⌝ }
-    ensures { λ r. ⌜ FirstsOf (to .jump) (to .fall) (e .touched) denied (opposed .jump) (opposed .fall) r ⌝ }
+    ensures { λ r. ⌜ FirstsOf tests (to .jump) (to .fall) (e .touched) denied (opposed .jump) (opposed .fall) r ⌝ }
 {
     let jump = to.jump;
     let fall = to.fall;
     let touched = e.touched;
     let jumping = opposed.jump;
     let falling = opposed.fall;
-    firsts_of(&jump, &fall, &touched, &denied, &jumping, &falling)
+    firsts_of(tests, &jump, &fall, &touched, &denied, &jumping, &falling)
 }
 
 // All that is found of a body: the sets, and for the conflict list each block's variable and the firsts of its edges.
@@ -624,8 +655,8 @@ fn find(body: form::Body) -> Found
     let falling = o.falling;
     let deny_jump = e.jump;
     let deny_fall = e.fall;
-    let jumped = firsts_by(targets, e, deny_jump, jumping);
-    let fallen = firsts_by(targets, e, deny_fall, falling);
+    let jumped = firsts_by(t.tests, targets, e, deny_jump, jumping);
+    let fallen = firsts_by(t.tests, targets, e, deny_fall, falling);
     let listed = listed_of(jumped, fallen);
     let touched = e.touched;
     let denied = Edges {

@@ -2,3 +2,4 @@
 pub mod Tabled
 pub mod Filled
 pub mod Sums
+pub mod Sorted
