@@ -3,7 +3,7 @@ use mathlib.Core.Path.{_≡_}
 use mathlib.Core.Bool.{Bool, true, false, not, _&&_, _||_}
 use mathlib.Core.List.{List}
 use Prim.Native.Nat.{ℕ, _+_, _≤_, _<_}
-use lib.Dec.{eqb, ltb}
+use lib.Dec.{eqb}
 use lib.IntN.{ℤ, pos}
 use lib.ListN.{length, getD, take}
 use Rattle.laws.specs.Terms.{bit, anyOf, any}
@@ -13,7 +13,7 @@ use Rattle.form.specs.declared.Block.{Block}
 use Rattle.form.specs.declared.Effect.{Effect}
 use Rattle.form.specs.Form.{zeroCounter}
 use Rattle.form.specs.Relation.{opposite}
-use Rattle.form.specs.Conflict.{Condition, noBlock, block, effectsOf, refuses, lastOn, opposes, assigned}
+use Rattle.form.specs.Conflict.{Condition, noBlock, block, effectsOf, refuses, lastOn, assigned}
 use Rattle.relations.specs.PairTest.{shares}
 use Rattle.relations.specs.Joined.{jumpOf, fallOf, byJump, byFall}
 use Rattle.conflict.specs.declared.Tests.{Tests}
@@ -23,7 +23,6 @@ use Rattle.conflict.specs.declared.EffectRows.{EffectRows}
 use Rattle.conflict.specs.declared.Reach.{Reach}
 use Rattle.conflict.specs.declared.Firsts.{Firsts}
 use Rattle.conflict.specs.declared.Edges.{Edges}
-use Rattle.conflict.specs.declared.Sets.{Sets}
 use Rattle.conflict.specs.declared.Opposition.{Opposition}
 use Rattle.conflict.specs.declared.Found.{Found}
 use Rattle.conflict.specs.Sets.{setsOf}

@@ -1,5 +1,5 @@
 -- The loop that finds clean paths to a block, from the block down: where it stands, its start, its turn and its end. Rests on Parts.
-use mathlib.Core.Path.{_≡_, refl, sym, ap, ap₂, subst, _∙_}
+use mathlib.Core.Path.{_≡_, sym, ap, _∙_}
 use mathlib.Core.Logic.{_⊎_, inl, inr}
 use mathlib.Core.Bool.{Bool, true, false, not, _&&_, _||_, and-false}
 use mathlib.Core.List.{List}
@@ -12,8 +12,7 @@ use Rattle.laws.specs.Terms.{bit}
 use Rattle.laws.specs.Sets.{below-or-not}
 use Rattle.words.specs.Filled.{Downto, downto-none, downto-more, downto-end}
 use Rattle.relations.specs.Blocks.{within, beyond}
-use Rattle.conflict.specs.declared.Reach.{Reach}
-use Rattle.conflict.specs.Parts.{Above, Paths, Leading, ReachOf}
+use Rattle.conflict.specs.Parts.{Above, Paths, ReachOf}
 
 -- past s every target is
 past : (targets : List ℕ) → length targets ≡ 64 → Above targets → (s j : ℕ) → s < 64 → s < j → s < getD targets j 64

@@ -3,21 +3,14 @@ use mathlib.Core.Path.{_≡_, refl, sym, subst, _∙_}
 use mathlib.Core.Bool.{Bool, not, _&&_, _||_}
 use Prim.Native.Nat.{ℕ, _+_, _-_, _≤_, _<_}
 use native.Mathlib.Omega.{arith}
-use lib.Dec.{eqb}
-use lib.IntN.{ℤ, pos}
-use lib.ListN.{length, getD}
-use mir.Syntax.{w32}
-use mir.Val.{SFits}
-use mir.Facts.{toZ-ofZ}
-use Rattle.laws.specs.Terms.{bit, any}
-use Rattle.words.specs.Filled.{Told, told-none, told-more, told-end, any-last}
+use lib.ListN.{length}
+use Rattle.words.specs.Filled.{Told, told-none, told-more, told-end}
 use mathlib.Core.Logic.{inl}
 use mathlib.Core.List.{List}
-use Rattle.form.specs.declared.Block.{Block}
 use Rattle.form.specs.declared.Effect.{Effect}
-use Rattle.form.specs.Conflict.{block, effectsBelow, effectsOf, noBlock}
+use Rattle.form.specs.Conflict.{effectsBelow, effectsOf, noBlock}
 use Rattle.relations.specs.Blocks.{taken}
-use Rattle.relations.specs.Effects.{Reached, reached-next, own-part}
+use Rattle.relations.specs.Effects.{Reached}
 use Rattle.conflict.specs.Parts.{withParts, TouchedBy, DeniedBy, HitsOf}
 use Rattle.conflict.specs.Turns.{own-effects, next-effects}
 use borrow.Author.Needs.{needs}

@@ -1,8 +1,7 @@
 -- `conflict::reach_of` meets its contract. The loop's invariant: the blocks from b on are done. The measure is b.
 use mathlib.Core.Path.{_≡_, subst}
-use Prim.Native.Nat.{ℕ, _+_, _-_, _≤_, _<_}
+use Prim.Native.Nat.{ℕ, _+_, _-_, _≤_}
 use native.Mathlib.Omega.{arith}
-use lib.ListN.{length, getD}
 use Rattle.conflict.specs.Reaching.{Reaching, reaching-none, reaching-more, reaching-end}
 use borrow.Author.Needs.{needs}
 use Rattle.conflict.proofs.reach_of.Statement.{statement}

@@ -19,7 +19,7 @@ abbrev μ-loop : tie.MeasureT-loop
 μ-loop blocks targets touched denied jumping falling listed plan₀ b₀ plan b = 64 - b
 
 sets-of-requires : tie.Need-sets-of-requires Inv-loop μ-loop
-sets-of-requires c κs = record { few = c .pre .few; onward = c .pre .onward }
+sets-of-requires c κs = c .pre
 
 loop-holds : tie.Need-loop-holds Inv-loop μ-loop
 loop-holds c = (λ k w h l. let z : ⊥ = omega arith in absurd z, omega arith)
