@@ -11,7 +11,7 @@ use lib.ListN.{length, getD}
 use Rattle.laws.specs.Terms.{bit, any, anyOf, Mem}
 use Rattle.laws.specs.Tests.{split, any-same, any-none}
 use Rattle.laws.specs.Sets.{bit-none, below-or-not}
-use Rattle.words.specs.Filled.{Told, told-as, told-rows, rows-told, tabled-at, tabled-length}
+use Rattle.words.specs.Filled.{Told, told-as, told-rows, rows-told, set-bits, tabled-at, tabled-length}
 use Rattle.form.specs.declared.Body.{Body}
 use Rattle.form.specs.declared.Block.{Block}
 use Rattle.form.specs.Conflict.{noBlock, block, touches, exitsBy, exits, isTest, condition, opposes, denies, Onward, Sound, clean, assigned, listed, conflicts}
@@ -23,7 +23,7 @@ use Rattle.edges.specs.Finding.{way-jump, way-fall}
 use Rattle.conflict.specs.declared.Firsts.{Firsts}
 use Rattle.edges.specs.declared.Edges.{Edges}
 use Rattle.conflict.specs.Sets.{setsOf}
-use Rattle.conflict.specs.Parts.{EitherAt, ListedAt, Paths, AssignedAt, ByJumpAt, ByFallAt, FirstsOf, FirstsBy, Above, ListedOf, FoundOf}
+use Rattle.conflict.specs.Parts.{EitherAt, ListedAt, Paths, AssignedAt, LedAt, OnTest, FirstsOf, FirstsBy, Above, ListedOf, FoundOf}
 
 -- bits of a row b that has a word for each block
 abbrev pub Bits : (ℕ → ℕ → Bool) → ℕ → ℕ → Type 0
@@ -113,6 +113,10 @@ module _ (body : Body) (sound : Sound body) where
         subst (λ (x : Local). Told 0 (Bits (λ b k. opposes body (b, 2) (k, 2))) 64 64 (x .falling .fall)) (sym is)
         (rows-told (λ b k. opposes body (b, 2) (k, 2)) (λ b k h. opposes-test body (b, 2) (k, 2) (off k h)))
 
+    tests-bit : (k : ℕ) → bit (own .tests) k ≡ isTest body k
+    unfolding localOf
+    tests-bit k = ap (λ (x : Local). bit (x .tests) k) is ∙ set-bits (isTest body) off k
+
     variables : Told 0 (λ k x. x ≡ block body k .variable) 64 64 (own .variable)
     unfolding localOf
     variables =
@@ -176,44 +180,44 @@ module _ (body : Body) (sound : Sound body) where
           go (inl h) = told .at j h s
           go (inr h) = ap (λ x. bit x s) (beyond denied j 0 (omega (arith, told .size))) ∙ bit-none s ∙ sym (denies-none body j (s, way) (none-past j h))
 
-      assigned-row : (denied l : List ℕ) → Told 0 (Bits (λ b k. denies body b (k, way))) 64 64 denied → Told 0 (AssignedAt (own .targets .jump) (own .targets .fall) (own .touched) denied) 64 64 l → Told 0 (λ s x. (j : ℕ) → bit x j ≡ assigned body j (s, way)) 64 64 l
+      -- where s is a test by the paths to it; else nothing
+      by-test : (s x : ℕ) (P : ℕ → ℕ → Type 0) (f : ℕ → Bool) → OnTest (own .tests) P s x → (isTest body s ≡ true → P s x → (j : ℕ) → bit x j ≡ f j) → (isTest body s ≡ false → (j : ℕ) → f j ≡ false) → (j : ℕ) → bit x j ≡ f j
+      by-test s x P f p here else = split (isTest body s) (λ e. here e (p .on (tests-bit s ∙ e))) (λ e j. p .off (tests-bit s ∙ e) j ∙ sym (else e j))
+
+      assigned-row : (denied l : List ℕ) → Told 0 (Bits (λ b k. denies body b (k, way))) 64 64 denied → Told 0 (OnTest (own .tests) (AssignedAt (own .targets .jump) (own .targets .fall) (own .touched) denied)) 64 64 l → Told 0 (λ s x. (j : ℕ) → bit x j ≡ assigned body j (s, way)) 64 64 l
       unfolding assigned
-      assigned-row denied l deny told = told-as 0 _ 64 _ l told (λ s x h p j.
-          p .bits j
-          ∙ ap (λ a. a && ((bit (p .reach .jump) j || bit (p .reach .fall) j) || eqb j s)) (denied-bit denied deny j s)
-          ∙ split (isTest body s)
-          (λ e. let w = paths-of s h e in
-          ap (λ a. denies body j (s, way) && a)
-          ((λ i. (p .reached .jumps (leading s) w j i || p .reached .falls (leading s) w j i) || eqb j s)
-          ∙ (λ i. (leading s (jump-all j i) || leading s (fall-all j i)) || eqb j s)
+      assigned-row denied l deny told = told-as 0 _ 64 _ l told (λ s x h p. by-test s x (AssignedAt (own .targets .jump) (own .targets .fall) (own .touched) denied) (λ j. assigned body j (s, way)) p
+          (λ e q j.
+          q (leading s) (paths-of s h e) j
+          ∙ ap (λ a. a && ((leading s (getD (own .targets .jump) j 64) || leading s (getD (own .targets .fall) j 64)) || eqb j s)) (denied-bit denied deny j s)
+          ∙ ap (λ a. denies body j (s, way) && a)
+          ((λ i. (leading s (jump-all j i) || leading s (fall-all j i)) || eqb j s)
           ∙ ap (λ a. a || eqb j s) (sym (some-way body (sound .onward) (block body s .variable) s (test-real body s e) (sound .few) j))
           ∙ or-comm (anyOf (λ o. leading s (o .1)) (exits body j)) (eqb j s)
           ∙ (λ i. eqb j s || anyOf (λ o. clean body (sym (on s) i) (body .count) (o .1) s) (exits body j))))
-          (λ e. let d = denies-test body j (s, way) e in rw d))
+          (λ e j. let d = denies-test body j (s, way) e in rw d))
 
-      jump-row : (opposed l : List ℕ) → Told 0 (Bits (λ s j. opposes body (s, way) (j, 1))) 64 64 opposed → Told 0 (ByJumpAt (own .targets .jump) (own .targets .fall) (own .touched) opposed) 64 64 l → Told 0 (λ s x. (j : ℕ) → bit x j ≡ byJump body j (s, way)) 64 64 l
+      jump-row : (opposed l : List ℕ) → Told 0 (Bits (λ s j. opposes body (s, way) (j, 1))) 64 64 opposed → Told 0 (OnTest (own .tests) (LedAt (own .targets .jump) (own .targets .fall) (own .touched) opposed (own .targets .jump))) 64 64 l → Told 0 (λ s x. (j : ℕ) → bit x j ≡ byJump body j (s, way)) 64 64 l
       unfolding byJump
-      jump-row opposed l opp told = told-as 0 _ 64 _ l told (λ s x h p j.
-          p .bits j
-          ∙ ap (λ a. a && bit (p .reach .jump) j) (opp .at s h j ∙ opposes-swap body (s, way) (j, 1))
-          ∙ split (isTest body s)
-          (λ e. ap (λ a. opposes body (j, 1) (s, way) && a)
-          (p .reached .jumps (leading s) (paths-of s h e) j ∙ (λ i. clean body (sym (on s) i) (body .count) (jump-all j i) s)))
-          (λ e. let d = opposes-test body (j, 1) (s, way) e in rw d))
+      jump-row opposed l opp told = told-as 0 _ 64 _ l told (λ s x h p. by-test s x (LedAt (own .targets .jump) (own .targets .fall) (own .touched) opposed (own .targets .jump)) (λ j. byJump body j (s, way)) p
+          (λ e q j.
+          q (leading s) (paths-of s h e) j
+          ∙ ap (λ a. a && leading s (getD (own .targets .jump) j 64)) (opp .at s h j ∙ opposes-swap body (s, way) (j, 1))
+          ∙ ap (λ a. opposes body (j, 1) (s, way) && a) (λ i. clean body (sym (on s) i) (body .count) (jump-all j i) s))
+          (λ e j. let d = opposes-test body (j, 1) (s, way) e in rw d))
 
-      fall-row : (opposed l : List ℕ) → Told 0 (Bits (λ s j. opposes body (s, way) (j, 2))) 64 64 opposed → Told 0 (ByFallAt (own .targets .jump) (own .targets .fall) (own .touched) opposed) 64 64 l → Told 0 (λ s x. (j : ℕ) → bit x j ≡ byFall body j (s, way)) 64 64 l
+      fall-row : (opposed l : List ℕ) → Told 0 (Bits (λ s j. opposes body (s, way) (j, 2))) 64 64 opposed → Told 0 (OnTest (own .tests) (LedAt (own .targets .jump) (own .targets .fall) (own .touched) opposed (own .targets .fall))) 64 64 l → Told 0 (λ s x. (j : ℕ) → bit x j ≡ byFall body j (s, way)) 64 64 l
       unfolding byFall
-      fall-row opposed l opp told = told-as 0 _ 64 _ l told (λ s x h p j.
-          p .bits j
-          ∙ ap (λ a. a && bit (p .reach .fall) j) (opp .at s h j ∙ opposes-swap body (s, way) (j, 2))
-          ∙ split (isTest body s)
-          (λ e. ap (λ a. opposes body (j, 2) (s, way) && a)
-          (p .reached .falls (leading s) (paths-of s h e) j ∙ (λ i. clean body (sym (on s) i) (body .count) (fall-all j i) s)))
-          (λ e. let d = opposes-test body (j, 2) (s, way) e in rw d))
+      fall-row opposed l opp told = told-as 0 _ 64 _ l told (λ s x h p. by-test s x (LedAt (own .targets .jump) (own .targets .fall) (own .touched) opposed (own .targets .fall)) (λ j. byFall body j (s, way)) p
+          (λ e q j.
+          q (leading s) (paths-of s h e) j
+          ∙ ap (λ a. a && leading s (getD (own .targets .fall) j 64)) (opp .at s h j ∙ opposes-swap body (s, way) (j, 2))
+          ∙ ap (λ a. opposes body (j, 2) (s, way) && a) (λ i. clean body (sym (on s) i) (body .count) (fall-all j i) s))
+          (λ e j. let d = opposes-test body (j, 2) (s, way) e in rw d))
 
       firsts-by : (denied jumping falling : List ℕ) (p : Firsts) → Told 0 (Bits (λ b k. denies body b (k, way))) 64 64 denied
           → Told 0 (Bits (λ s j. opposes body (s, way) (j, 1))) 64 64 jumping → Told 0 (Bits (λ s j. opposes body (s, way) (j, 2))) 64 64 falling
-          → FirstsOf (own .targets .jump) (own .targets .fall) (own .touched) denied jumping falling p → FirstsBy body way p
+          → FirstsOf (own .tests) (own .targets .jump) (own .targets .fall) (own .touched) denied jumping falling p → FirstsBy body way p
       firsts-by denied jumping falling p d a b f = record {
         assigned = assigned-row denied (p .assigned) d (f .assigned);
         jumps = jump-row jumping (p .jump) a (f .jumps);
@@ -261,8 +265,8 @@ module _ (body : Body) (sound : Sound body) where
     pub sized-fall : ((length (own .targets .jump) ≡ 64) × ((length (own .targets .fall) ≡ 64) × (length (own .touched) ≡ 64))) × (((length (own .denied .fall) ≡ 64) × ((length (own .falling .jump) ≡ 64) × (length (own .falling .fall) ≡ 64))) × (Above (own .targets .jump) × Above (own .targets .fall)))
     sized-fall = sized (own .denied .fall) (own .falling) (deny-fall own is .size) (fall-jump own is .size) (fall-fall own is .size)
 
-    module _ (jumped fallen : Firsts) (one : FirstsOf (own .targets .jump) (own .targets .fall) (own .touched) (own .denied .jump) (own .jumping .jump) (own .jumping .fall) jumped)
-        (two : FirstsOf (own .targets .jump) (own .targets .fall) (own .touched) (own .denied .fall) (own .falling .jump) (own .falling .fall) fallen) (x : Edges) (lists : ListedOf jumped fallen x) where
+    module _ (jumped fallen : Firsts) (one : FirstsOf (own .tests) (own .targets .jump) (own .targets .fall) (own .touched) (own .denied .jump) (own .jumping .jump) (own .jumping .fall) jumped)
+        (two : FirstsOf (own .tests) (own .targets .jump) (own .targets .fall) (own .touched) (own .denied .fall) (own .falling .jump) (own .falling .fall) fallen) (x : Edges) (lists : ListedOf jumped fallen x) where
       by-one : FirstsBy body 1 jumped
       by-one = firsts-by own is 1 (same-variable 1) (own .denied .jump) (own .jumping .jump) (own .jumping .fall) jumped (deny-jump own is) (jump-jump own is) (jump-fall own is) one
 

@@ -7,10 +7,10 @@ use borrow.Author.Tests.{ltb-true, ltb-false}
 use lib.Dec.{eqb, ltb}
 use lib.IntN.{pos}
 use lib.ListN.{length, getD}
-use Rattle.laws.specs.Terms.{bit, anyOf}
+use Rattle.laws.specs.Terms.{setOf, bit, anyOf}
 use Rattle.laws.specs.Tests.{clash, split, eqb-swap}
 use Rattle.words.specs.Tabled.{tabled}
-use Rattle.words.specs.Filled.{Told, told-as, told-tabled, told-rows}
+use Rattle.words.specs.Filled.{Told, same-bits, set-bits, told-as, told-tabled, told-rows}
 use Rattle.form.specs.declared.Body.{Body}
 use Rattle.form.specs.declared.Block.{Block}
 use Rattle.form.specs.Conflict.{block, effectsBelow, effectsOf, touches, lastOn, refuses, exitsBy, exits, isTest, condition, contradict, opposes, denies}
@@ -157,9 +157,13 @@ module _ (body : Body) where
     off : (k : ℕ) → 64 ≤ k → isTest body k ≡ false
     off k h = no-test body k (past-64 body size k h)
 
-    pub local-is : record { targets = to; touched = e .touched; denied = record { jump = e .jump; fall = e .fall }; jumping = o .jumping; falling = o .falling; variable = t .variable } ≡ localOf body
+    tests-are : t .tests ≡ setOf 64 (isTest body)
+    tests-are = same-bits (t .tests) (setOf 64 (isTest body)) (λ k. test-bit size t shown k ∙ sym (set-bits (isTest body) off k))
+
+    pub local-is : record { tests = t .tests; targets = to; touched = e .touched; denied = record { jump = e .jump; fall = e .fall }; jumping = o .jumping; falling = o .falling; variable = t .variable } ≡ localOf body
     unfolding localOf block
     local-is = λ i. record {
+      tests = tests-are i;
       targets = targets-are to led i;
       touched = told-rows (λ b k. isTest body k && touches body b (block body k .variable)) (λ b k h. rw (off k h)) (e .touched) touch i;
       denied = record {

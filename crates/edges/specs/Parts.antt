@@ -2,7 +2,7 @@
 use mathlib.Core.Path.{_≡_}
 use mathlib.Core.Bool.{not, _&&_}
 use mathlib.Core.List.{List}
-use Prim.Native.Nat.{ℕ}
+use Prim.Native.Nat.{ℕ, _<_}
 use lib.Dec.{eqb}
 use lib.IntN.{ℤ, pos}
 use lib.ListN.{length, getD, take}
@@ -59,6 +59,11 @@ conditionAt variable relation constant j = record { variable = getD variable j 0
 
 abbrev pub DeniedBy : (tests : ℕ) (variable relation : List ℕ) (constant : List ℤ) → List Effect → ℕ → Type 0
 DeniedBy tests variable relation constant effects x = (j : ℕ) → bit x j ≡ bit tests j && refuses (lastOn (getD variable j 0) effects) (conditionAt variable relation constant j)
+
+-- for each variable, the tests on it
+pub record OnVariable (tests : ℕ) (variable l : List ℕ) : Type 0 where
+  pub size : length l ≡ 256
+  pub at : (v : ℕ) → v < 256 → (j : ℕ) → bit (getD l v 0) j ≡ bit tests j && eqb (getD variable j 0) v
 
 pub record HitsOf (tests : ℕ) (variable jump fall : List ℕ) (constant : List ℤ) (effects : List Effect) (h : Hits) : Type 0 where
   pub touched : TouchedBy tests variable effects (h .touched)

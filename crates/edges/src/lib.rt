@@ -3,7 +3,7 @@
 ghost use mathlib.Core.Path.{_≡_};
 ghost use mathlib.Core.Bool.{_&&_, not};
 ghost use Prim.Native.Nat.{ℕ, _+_, _≤_};
-ghost use lib.Dec.{eqb, ltb};
+ghost use lib.Dec.{ltb};
 ghost use lib.ListN.{length, getD, take, drop};
 ghost use lib.IntN.{pos};
 ghost use Rattle.laws.specs.Terms.{bit};
@@ -14,7 +14,7 @@ ghost use Rattle.relations.specs.PairTest.{shares};
 ghost use Rattle.words.specs.Filled.{Told};
 ghost use Rattle.relations.specs.Effects.{Within};
 ghost use Rattle.relations.specs.Joined.{target};
-ghost use Rattle.edges.specs.Parts.{blockIn, withParts, TestsOf, TargetsOf, Sizes, HitsOf, EffectRowsOf, AlikeAt, OpposedAt, OpposedOf};
+ghost use Rattle.edges.specs.Parts.{blockIn, withParts, TestsOf, TargetsOf, Sizes, HitsOf, EffectRowsOf, OnVariable, AlikeAt, OpposedAt, OpposedOf};
 ghost use Rattle.edges.specs.Local.{localOf};
 
 // The tests of a body: which blocks they are, and each block's variable, relation by jump and by fall, and constant.
@@ -38,9 +38,10 @@ pub struct Edges {
     pub fall: [u64; 64],
 }
 
-// What a body's blocks, effects and edges say by themselves, with no path looked at: where each block's ways lead; the tests that it touches; the edges that its effects
-// deny; the edges that its edge by jump, and that by fall, conflicts with; and its variable.
+// What a body's blocks, effects and edges say by themselves, with no path looked at: which blocks are tests; where each block's ways lead; the tests that it touches; the edges that
+// its effects deny; the edges that its edge by jump, and that by fall, conflicts with; and its variable.
 pub struct Local {
+    pub tests: u64,
     pub targets: Targets,
     pub touched: [u64; 64],
     pub denied: Edges,
@@ -138,28 +139,19 @@ fn targets_of(count: usize, blocks: [form::Block; 64]) -> Targets
     Targets { jump, fall }
 }
 
-// The tests on variable v.
-fn on_variable(tests: u64, variable: &[u8], v: u8) -> u64
+// For each variable, the tests on it.
+fn tests_by_variable(tests: u64, variable: &[u8]) -> [u64; 256]
     requires { ⌜ length (now variable) ≡ 64 ⌝ }
-    ensures { λ r. ⌜ ((j : ℕ) → bit r j ≡ bit tests j && eqb (getD (now (variable .entry)) j 0) v) ⌝ }
+    ensures { λ r. ⌜ OnVariable tests (now (variable .entry)) r ⌝ }
 {
-    let mut r = 0;
-    let mut j = 0;
-    while j < 64 {
-        r = words::put(r, j, words::has(tests, j) & (variable[j] == v));
-        j += 1;
+    let mut r = [0; 256];
+    let mut i = 0;
+    while i < 64 {
+        let v = variable[i] as usize;
+        r[v] = words::put(r[v], i, words::has(tests, i));
+        i += 1;
     }
     r
-}
-
-fn opposed_if(asked: bool, relation1: u8, constant1: i32, relation2: u8, constant2: i32) -> bool
-    ensures { λ r. ⌜ r ≡ asked && not (shares relation1 constant1 relation2 constant2) ⌝ }
-{
-    if asked {
-        pair::conflicting(relation1, constant1, relation2, constant2)
-    } else {
-        false
-    }
 }
 
 // Those of the set whose relation to their constant no whole number has together with the relation to the constant.
@@ -168,15 +160,12 @@ fn opposed(set: u64, relations: &[u8], constants: &[i32], relation: u8, constant
     ensures { λ r. ⌜ ((j : ℕ) → bit r j ≡ bit set j && not (shares relation constant (getD (now (relations .entry)) j 0) (getD (now (constants .entry)) j (pos 0)))) ⌝ }
 {
     let mut r = 0;
-    let mut j = 0;
-    while j < 64 {
-        let asked = words::has(set, j);
-        r = words::put(
-            r,
-            j,
-            opposed_if(asked, relation, constant, relations[j], constants[j]),
-        );
-        j += 1;
+    let mut left = set;
+    while left != 0 {
+        let j = words::lowest(left);
+        let against = pair::conflicting(relation, constant, relations[j], constants[j]);
+        r = words::put(r, j, against);
+        left = words::rest(left);
     }
     r
 }
@@ -185,6 +174,7 @@ fn opposed(set: u64, relations: &[u8], constants: &[i32], relation: u8, constant
 fn hits_of(
     tests: u64,
     variable: &[u8],
+    groups: &[u64],
     jump: &[u8],
     fall: &[u8],
     constant: &[i32],
@@ -192,7 +182,7 @@ fn hits_of(
     from: usize,
     own: usize,
 ) -> Hits
-    requires { ⌜ Sizes (now variable) (now jump) (now fall) (now constant) × (from + own ≤ 256) ⌝ }
+    requires { ⌜ Sizes (now variable) (now jump) (now fall) (now constant) × (OnVariable tests (now variable) (now groups) × (from + own ≤ 256)) ⌝ }
     ensures { λ r. ⌜ HitsOf tests (now (variable .entry)) (now (jump .entry)) (now (fall .entry)) (now (constant .entry)) (take own (drop from effects)) r ⌝ }
 {
     let mut touched = 0;
@@ -202,7 +192,8 @@ fn hits_of(
     while k < own {
         let a = effects[from + k];
         let value = a.constant;
-        let on = on_variable(tests, variable, a.variable);
+        let v = a.variable as usize;
+        let on = groups[v];
         let set = words::only(a.how == 1, on);
         touched = words::either(touched, on);
         by_jump = words::either(
@@ -251,6 +242,7 @@ fn effect_rows(
     requires { ⌜ Sizes (now variable) (now jump) (now fall) (now constant) ⌝ }
     ensures { λ r. ⌜ EffectRowsOf (withParts count blocks effects) tests (now (variable .entry)) (now (jump .entry)) (now (fall .entry)) (now (constant .entry)) r ⌝ }
 {
+    let groups = tests_by_variable(tests, variable);
     let mut touched = [0; 64];
     let mut by_jump = [0; 64];
     let mut by_fall = [0; 64];
@@ -259,7 +251,17 @@ fn effect_rows(
     while b < 64 {
         let k = own_block(count, b, blocks[b]);
         let own = within(from, k.effects);
-        let h = hits_of(tests, variable, jump, fall, constant, effects, from, own);
+        let h = hits_of(
+            tests,
+            variable,
+            &groups,
+            jump,
+            fall,
+            constant,
+            effects,
+            from,
+            own,
+        );
         touched[b] = h.touched;
         by_jump[b] = h.jump;
         by_fall[b] = h.fall;
@@ -277,13 +279,12 @@ fn alike_rows(tests: u64, variable: &[u8]) -> [u64; 64]
     requires { ⌜ length (now variable) ≡ 64 ⌝ }
     ensures { λ r. ⌜ Told 0 (AlikeAt tests (now (variable .entry))) 64 64 r ⌝ }
 {
+    let groups = tests_by_variable(tests, variable);
     let mut r = [0; 64];
     let mut b = 0;
     while b < 64 {
-        r[b] = words::only(
-            words::has(tests, b),
-            on_variable(tests, variable, variable[b]),
-        );
+        let v = variable[b] as usize;
+        r[b] = words::only(words::has(tests, b), groups[v]);
         b += 1;
     }
     r
@@ -377,8 +378,10 @@ pub fn local_of(body: form::Body) -> Local
         jump: deny_jump,
         fall: deny_fall,
     };
+    let tests = t.tests;
     let variable = t.variable;
     Local {
+        tests,
         targets,
         touched,
         denied,

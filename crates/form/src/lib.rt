@@ -408,27 +408,6 @@ fn zero_effect() -> Effect
     }
 }
 
-// The list with x at its next place, if it has one.
-fn with_block(list: [Block; 64], count: usize, x: Block) -> [Block; 64]
-    ensures { λ r. ⌜ r ≡ placed 64 list count x ⌝ }
-{
-    let mut r = list;
-    if count < 64 {
-        r[count] = x;
-    }
-    r
-}
-
-fn with_effect(list: [Effect; 256], count: usize, x: Effect) -> [Effect; 256]
-    ensures { λ r. ⌜ r ≡ placed 256 list count x ⌝ }
-{
-    let mut r = list;
-    if count < 256 {
-        r[count] = x;
-    }
-    r
-}
-
 fn blocks_of(s: &[u8]) -> Blocks
     ensures { λ r. ⌜ (r .count ≡ length (blocksIn (now (s .entry)) (recordsFrom (now (s .entry)) 0))) × (r .list ≡ fill zeroBlock 64 (blocksIn (now (s .entry)) (recordsFrom (now (s .entry)) 0))) ⌝ }
 {
@@ -440,8 +419,9 @@ fn blocks_of(s: &[u8]) -> Blocks
         let next = at + record_length(kind) as usize;
         if kind == 2 {
             let block = block_at(s, at, own_effects(s, next));
-            let longer = with_block(list, count, block);
-            list = longer;
+            if count < 64 {
+                list[count] = block;
+            }
             count += 1;
         }
         at = next;
@@ -460,8 +440,9 @@ fn effects_of(s: &[u8]) -> Effects
         let next = at + record_length(kind) as usize;
         if kind == 3 {
             let effect = effect_at(s, at);
-            let longer = with_effect(list, count, effect);
-            list = longer;
+            if count < 256 {
+                list[count] = effect;
+            }
             count += 1;
         }
         at = next;

@@ -45,8 +45,8 @@ rowAt body b =
     ∷ 0 ∷ 0 ∷ 0 ∷ []
 
 -- the same from a body's sets and the block itself, with the three words that nothing uses
-abbrev pub rowFrom : Sets → Block → ℕ → List ℕ
-rowFrom sets k b =
+abbrev pub rowWith : Sets → Block → ℕ → (test : ℕ) → List ℕ
+rowWith sets k b test =
     getD (sets .targets .jump) b 0
     ∷ getD (sets .targets .fall) b 0
     ∷ k .cost
@@ -59,8 +59,11 @@ rowFrom sets k b =
     ∷ getD (sets .falling .fall) b 0
     ∷ getD (sets .listed .jump) b 0
     ∷ getD (sets .listed .fall) b 0
-    ∷ when (eqb (k .ending) 3) 1 0
+    ∷ test
     ∷ 0 ∷ 0 ∷ 0 ∷ []
+
+abbrev pub rowFrom : Sets → Block → ℕ → List ℕ
+rowFrom sets k b = rowWith sets k b (when (eqb (k .ending) 3) 1 0)
 
 -- ---- rows in the plan
 

@@ -1,3 +1,4 @@
 -- What contracts over words say, and what their proofs share.
 pub mod Tabled
 pub mod Filled
+pub mod Sorted
