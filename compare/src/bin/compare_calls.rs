@@ -21,12 +21,22 @@ use by_listing::served::{Call, Question};
 
 const INPUTS: u64 = 50_000;
 
+/// What `somniaret.h` says that a call needs at most.
+const STATED_STACK: u64 = 160 << 10;
+
 fn main() -> ExitCode {
     let calls = [Call::Verdict, Call::Rewrite, Call::Conflicts, Call::Walk, Call::Sweep, Call::SweepTable];
     let mut comparison = Comparison::start("compare_calls", INPUTS, &calls);
     for form in comparison.forms(mixed) {
         compare(&mut comparison, form);
     }
+    let stack = vec![Question::of(Call::Stack, [0; 4])];
+    comparison.ask("the stack that the calls took".to_string(), stack, |_, answers, _| {
+        let [bytes, ..] = answers[0].numbers;
+        println!("the calls took at most {bytes} bytes of stack");
+        let is_stated = bytes > 0 && bytes <= STATED_STACK;
+        is_stated.then_some(()).ok_or_else(|| format!("{bytes} bytes, and the header says at most {STATED_STACK}"))
+    });
     let of_a_form = [10, 11, 12, 13, 14, 15, 16, 17, 18, 19, 0];
     comparison.finish(&[
         (Call::Verdict, &of_a_form),
