@@ -1,14 +1,12 @@
-The report program of document 01, not proved and not tried yet: crates/report/src/main.rt, with `report: routes conflict form io libc` in crates.txt, stdin = examples/trainer.form
-and stdout = document 01's eight lines. The number of entries comes from the list asked with no room (42 with the bytes needed), so no call has a `requires`.
-
-// The report program: a form on standard input, document 01's lines on standard output. A refusal is printed alone. An input of any length is judged by its first 4,096 bytes
-// (roundtrip.Front).
+// The report program: a form on standard input, document 01's lines on standard output, a refusal alone. It reads 4,096 bytes at most. No form is longer than
+// 3,665 bytes, and any input of 3,682 bytes or more is judged by its first 3,682 (roundtrip.Front.front: judge (take n s) ≡ judge s for n of 3,682 and more; and
+// front-reading, the same of the body), so what is not read changes no answer: every answer is of the reading alone.
 use conflict::Listed;
 use routes::sweep::SweepAnswer;
 use routes::walk::WalkAnswer;
 
 fn number(n: u64) {
-    io::number::print_decimal(1, n);
+    io::print_decimal(1, n);
 }
 
 // A line: a word, a space and a number.
@@ -62,8 +60,16 @@ fn entries(form: &[u8]) -> u64 {
 fn walked_line(form: &[u8]) {
     let mut route = [0u8; 64];
     match routes::walk::walk(form, 100000, &mut route) {
-        WalkAnswer::Walked { iterations: _, weight: _, bound: _, walked } => line(b"walked ", walked),
-        WalkAnswer::Refused { number: _, place: _ } => {
+        WalkAnswer::Walked {
+            iterations: _,
+            weight: _,
+            bound: _,
+            walked,
+        } => line(b"walked ", walked),
+        WalkAnswer::Refused {
+            number: _,
+            place: _,
+        } => {
             io::write_all(1, b"walked over\n");
         }
     }
@@ -74,7 +80,12 @@ fn report(form: &[u8]) {
     let mut route = [0u8; 64];
     match routes::sweep::sweep(form, &mut table, &mut route) {
         SweepAnswer::Refused { number, place } => refused(number as u64, place as u64),
-        SweepAnswer::Routed { iterations, weight, bound, kept } => {
+        SweepAnswer::Routed {
+            iterations,
+            weight,
+            bound,
+            kept,
+        } => {
             let reading = form::read(form);
             let body = reading.body;
             line(b"blocks ", body.count as u64);
