@@ -2,28 +2,7 @@
 # Tries the main command, ./somniaret: what it prints, says and ends with. The last line is 'N passed, M failed'.
 set -u
 cd "$(dirname "$0")/.." || exit 1
-
-passed=0
-failed=0
-room=$(mktemp -d) || exit 1
-trap 'rm -rf "$room"' EXIT
-
-# try NAME STATUS OUTPUT SAID WORD..: the exit status, all of standard output, and a part of standard error (empty: nothing was said).
-try() {
-    local name=$1 status=$2 output=$3 part=$4 ended
-    shift 4
-    "$@" >"$room/out" 2>"$room/said" </dev/null
-    ended=$?
-    printf '%s' "$output" >"$room/wanted"
-    if [ "$ended" -eq "$status" ] && cmp -s "$room/out" "$room/wanted" &&
-        { if [ -n "$part" ]; then grep -qF -- "$part" "$room/said"; else [ ! -s "$room/said" ]; fi; }; then
-        passed=$((passed + 1))
-    else
-        failed=$((failed + 1))
-        echo "FAILED: $name: status $ended, wanted $status; it printed:"
-        cat "$room/out" "$room/said"
-    fi
-}
+. tools/try.sh
 
 report=$(cat crates/report/stdout)$'\n'
 # Block 1, at 34, with its target, at 43, made 1.
@@ -48,5 +27,4 @@ if [ -w /dev/full ]; then
     try "no room for the report" 1 "" "cannot be printed" sh -c './somniaret examples/trainer.form >/dev/full'
 fi
 
-echo "$passed passed, $failed failed"
-[ "$failed" -eq 0 ]
+tried
