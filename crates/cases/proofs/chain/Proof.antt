@@ -1,6 +1,5 @@
--- `cases::chain` is proved. The loop goes by the next block, which stays at most the number of blocks or is 1. Assumes nothing.
-use mathlib.Core.Path.{_≡_}
-use Prim.Native.Nat.{_≤_, _-_, max}
+-- `cases::chain` is proved. The loop goes by the next block, which a byte holds. Assumes nothing.
+use Prim.Native.Nat.{_≤_, _-_}
 use native.Mathlib.Omega.{arith}
 use borrow.Author.Needs.{needs}
 use Rattle.cases.proofs.chain.Statement.{statement}
