@@ -1,6 +1,5 @@
 -- `cases::chain` is proved. The loop goes by the next block, which a byte holds. Assumes nothing.
 use Prim.Native.Nat.{_≤_, _-_}
-use native.Mathlib.Omega.{arith}
 use borrow.Author.Needs.{needs}
 use Rattle.cases.proofs.chain.Statement.{statement}
 use Rattle.cases.proofs.chain.Tie as tie

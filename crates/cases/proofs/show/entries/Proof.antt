@@ -1,6 +1,5 @@
 -- `cases::show::entries` is proved. The loop passes the bytes one by one. Assumes nothing.
 use Prim.Native.Nat.{_≤_, _-_}
-use native.Mathlib.Omega.{arith}
 use lib.ListN.{length}
 use borrow.Author.Needs.{needs}
 use Rattle.cases.proofs.show.entries.Statement.{statement}

@@ -1,6 +1,5 @@
 -- `cases::show::route` is proved. The loop passes the 64 bytes one by one. Assumes nothing.
 use Prim.Native.Nat.{_≤_, _-_}
-use native.Mathlib.Omega.{arith}
 use borrow.Author.Needs.{needs}
 use Rattle.cases.proofs.show.route.Statement.{statement}
 use Rattle.cases.proofs.show.route.Tie as tie
