@@ -57,7 +57,9 @@ for budget in "" x 13x " 13" -1 -18446744073709551615 4294967296 999999999999999
     try "the budget '$budget'" 2 "" "the budget is a number up to 4294967295" "${run[@]}" examples/trainer.form "$budget"
 done
 
-if [ "$(uname -m)" = x86_64 ] && command -v valgrind >/dev/null; then
+if [ "$(uname -m)" != x86_64 ] || ! valgrind -q --error-exitcode=1 true >/dev/null 2>&1; then
+    echo "valgrind is not there, or cannot run x86-64 programs here: not tried under it"
+else
     for form in examples/trainer.form examples/figure1.form "$room/refused.form" /dev/null; do
         "${run[@]}" "$form" >"$room/plain"
         try "$form under valgrind" 0 "$(cat "$room/plain")"$'\n' "" valgrind -q --error-exitcode=1 "${run[@]}" "$form"

@@ -1,3 +1,4 @@
+# shellcheck shell=bash
 # For scripts that try a command: source it, call `try` for each case and `tried` at the end.
 passed=0
 failed=0

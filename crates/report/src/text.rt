@@ -1,7 +1,6 @@
 // The report's text, put together in lent bytes: each function adds to what stands there before `at`, and answers where its text ends.
-ghost use mathlib.Core.List.{[], _∷_, _++_};
 ghost use mathlib.Core.Path.{_≡_};
-ghost use Prim.Native.Nat.{_+_, _≤_, _<_};
+ghost use Prim.Native.Nat.{_+_, _≤_};
 ghost use lib.ListN.{length};
 ghost use Rattle.report.specs.Adding.{Adds};
 ghost use Rattle.report.specs.Report.{decimal, line as lineText, refusalLine, letterOf, step as stepText, routeLine};
