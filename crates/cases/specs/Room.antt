@@ -1,4 +1,4 @@
--- What the writer and the list say they have written stands in the lent bytes: so many bytes are there. Rests on form's and conflict's Answer.
+-- What the writer and the list say they have written stands in the lent bytes: so many bytes are there. Rests on form's and listing's Answer.
 use mathlib.Core.Bool.{Bool, true, false}
 use mathlib.Core.List.{List, _++_}
 use mathlib.Core.Path.{_≡_, ap, sym, _∙_}
@@ -16,9 +16,9 @@ use Rattle.form.specs.declared.Written.the-variants.{Bytes as WrittenBytes, Unw
 use Rattle.form.specs.Form.{when, judge, bodyOf, lay, countsFit}
 use Rattle.form.specs.Answer.{written, asJudged as asWritten, heldAfter as heldForm}
 use Rattle.form.specs.Conflict.{conflictBytes}
-use Rattle.conflict.specs.declared.Listed.{Listed}
-use Rattle.conflict.specs.declared.Listed.the-variants.{Bytes, Unlisted}
-use Rattle.conflict.specs.Answer.{listing, asJudged, heldAfter}
+use Rattle.listing.specs.declared.Listed.{Listed}
+use Rattle.listing.specs.declared.Listed.the-variants.{Bytes, Unlisted}
+use Rattle.listing.specs.Answer.{listing, asJudged, heldAfter}
 
 -- bytes that stand first are there
 front : (n : ℕ) (bytes rest held : List ℕ) → n ≡ length bytes → held ≡ bytes ++ rest → Counts n held

@@ -1,8 +1,8 @@
 // What is printed of a case: every number of every answer, so that a wrong one changes the text.
 ghost use Rattle.io.specs.Counts.{Counts};
-use conflict::Listed;
 use counter::Counted;
 use form::Written;
+use listing::Listed;
 use routes::sweep::SweepAnswer;
 use routes::walk::WalkAnswer;
 
@@ -80,7 +80,7 @@ pub fn count(name: &[u8], initial: i32, step: i32, relation: u8, limit: i32) {
 
 pub fn pair(name: &[u8], relation1: u8, constant1: i32, relation2: u8, constant2: i32) {
     say(name);
-    if conflict::conflicting(relation1, constant1, relation2, constant2) {
+    if pair::conflicting(relation1, constant1, relation2, constant2) {
         say(b" conflict\n");
     } else {
         say(b" no conflict\n");
@@ -90,7 +90,7 @@ pub fn pair(name: &[u8], relation1: u8, constant1: i32, relation2: u8, constant2
 pub fn list(form: &[u8]) {
     say(b"  list:");
     let mut out = [0u8; 64];
-    match conflict::conflicts(form, &mut out) {
+    match listing::conflicts(form, &mut out) {
         Listed::Bytes(n) => entries(&out[..n]),
         Listed::Unlisted { number, place } => refusal(number, place),
     }
@@ -143,7 +143,7 @@ pub fn form(body: form::Body, out: &mut [u8; 3665]) -> usize
     ensures { λ r. ⌜ Counts r (now (out .exit)) ⌝ }
 {
     say(b"  form:");
-    match form::write(body, out) {
+    match writer::write(body, out) {
         Written::Bytes(n) => {
             value(b" ", n as u64);
             say(b" bytes\n");

@@ -4,34 +4,31 @@ use mathlib.Core.Path.{_≡_, refl, sym, ap, ap₂, _∙_}
 use mathlib.Core.Logic.{_⊎_, inl, inr}
 use mathlib.Core.Bool.{Bool, true, false, not, _&&_, _||_, or-comm, and-false}
 use mathlib.Core.List.{List}
-use Prim.Native.Nat.{ℕ, zero, suc, _+_, _≤_, _<_}
+use Prim.Native.Nat.{ℕ, zero, suc, _≤_, _<_}
 use native.Mathlib.Omega.{arith}
 use borrow.Author.Tests.{ltb-true, ltb-false}
 use lib.Dec.{eqb, ltb}
-use lib.IntN.{ℤ, pos}
-use lib.ListN.{length, getD, take, drop}
+use lib.IntN.{pos}
+use lib.ListN.{length, getD}
 use Rattle.laws.specs.Terms.{bit, any, anyOf, Mem}
 use Rattle.laws.specs.Tests.{clash, split, eqb-swap, any-same, any-none}
 use Rattle.laws.specs.Sets.{bit-none, below-or-not}
-use Rattle.words.specs.Tabled.{tabled, rows}
+use Rattle.words.specs.Tabled.{tabled}
 use Rattle.words.specs.Filled.{Told, told-as, told-tabled, told-rows}
 use Rattle.form.specs.declared.Body.{Body}
 use Rattle.form.specs.declared.Block.{Block}
-use Rattle.form.specs.declared.Effect.{Effect}
-use Rattle.form.specs.Relation.{opposite}
-use Rattle.form.specs.Conflict.{Edge, Condition, noBlock, block, effectsBelow, effectsOf, touches, lastOn, refuses, exitsBy, exits, isTest, condition, contradict, opposes, denies, Onward, clean, leads, assigned}
+use Rattle.form.specs.Conflict.{block, effectsBelow, effectsOf, touches, lastOn, refuses, exitsBy, exits, isTest, condition, contradict, opposes, denies, Onward, Sound, clean, assigned, listed, conflicts}
 use Rattle.relations.specs.PairTest.{shares, contradict-is}
 use Rattle.relations.specs.Blocks.{beyond}
-use Rattle.relations.specs.Joined.{above-three, target, jumpOf, fallOf, past-64, no-test, no-effects, denies-none, denies-test, opposes-test, opposes-first, opposes-swap, byJump, byFall, paired, assigned-none, test-real, clean-top, clean-step, some-way, listed-jump, listed-fall, listed-none}
+use Rattle.relations.specs.Joined.{above-three, target, jumpOf, fallOf, past-64, no-test, denies-none, denies-test, opposes-test, opposes-swap, byJump, byFall, paired, test-real, clean-top, clean-step, some-way, listed-jump, listed-fall, listed-none}
 use Rattle.conflict.specs.declared.Tests.{Tests}
 use Rattle.conflict.specs.declared.Targets.{Targets}
-use Rattle.conflict.specs.declared.Reach.{Reach}
 use Rattle.conflict.specs.declared.Firsts.{Firsts}
 use Rattle.conflict.specs.declared.Edges.{Edges}
 use Rattle.conflict.specs.declared.EffectRows.{EffectRows}
 use Rattle.conflict.specs.declared.Opposition.{Opposition}
-use Rattle.conflict.specs.Sets.{Sound, wayTo, listedBelow, setsOf}
-use Rattle.conflict.specs.Parts.{blockIn, withParts, TestsOf, TargetsOf, TouchedBy, conditionAt, DeniedBy, AlikeAt, OpposedAt, EitherAt, ListedAt, Paths, ReachOf, AssignedAt, ByJumpAt, ByFallAt, FirstsOf, FirstsBy, Above, EffectRowsOf, OpposedOf, ListedOf, FoundOf}
+use Rattle.conflict.specs.Sets.{wayTo, setsOf}
+use Rattle.conflict.specs.Parts.{blockIn, withParts, TestsOf, TargetsOf, TouchedBy, conditionAt, DeniedBy, AlikeAt, OpposedAt, EitherAt, ListedAt, Paths, AssignedAt, LedAt, OnTest, FirstsOf, FirstsBy, Above, EffectRowsOf, OpposedOf, ListedOf, FoundOf}
 
 -- bits of a row b that has a word for each block
 abbrev pub Bits : (ℕ → ℕ → Bool) → ℕ → ℕ → Type 0
@@ -209,7 +206,7 @@ module _ (body : Body) where
           inner b low = omega arith
 
       -- ---- the firsts of the edges by one way
-      module _ (way : ℕ) (on : (s : ℕ) → condition body (s, way) .variable ≡ block body s .variable) where
+      module _ (t : Tests) (shown : TestsOf (blockIn (body .count) (body .blocks)) t) (way : ℕ) (on : (s : ℕ) → condition body (s, way) .variable ≡ block body s .variable) where
         denied-bit : (denied : List ℕ) → Told 0 (Bits (λ b k. denies body b (k, way))) 64 64 denied → (j s : ℕ) → bit (getD denied j 0) s ≡ denies body j (s, way)
         denied-bit denied told j s = go (below-or-not j 64)
           where
@@ -217,44 +214,44 @@ module _ (body : Body) where
             go (inl h) = told .at j h s
             go (inr h) = ap (λ x. bit x s) (beyond denied j 0 (omega (arith, told .size))) ∙ bit-none s ∙ sym (denies-none body j (s, way) (past-64 body size j h))
 
-        assigned-row : (denied l : List ℕ) → Told 0 (Bits (λ b k. denies body b (k, way))) 64 64 denied → Told 0 (AssignedAt (to .jump) (to .fall) touched denied) 64 64 l → Told 0 (λ s x. (j : ℕ) → bit x j ≡ assigned body j (s, way)) 64 64 l
+        -- where s is a test by the paths to it; else nothing
+        by-test : (s x : ℕ) (P : ℕ → ℕ → Type 0) (f : ℕ → Bool) → OnTest (t .tests) P s x → (isTest body s ≡ true → P s x → (j : ℕ) → bit x j ≡ f j) → (isTest body s ≡ false → (j : ℕ) → f j ≡ false) → (j : ℕ) → bit x j ≡ f j
+        by-test s x P f p here else = split (isTest body s) (λ e. here e (p .on (test-bit size t shown s ∙ e))) (λ e j. p .off (test-bit size t shown s ∙ e) j ∙ sym (else e j))
+
+        assigned-row : (denied l : List ℕ) → Told 0 (Bits (λ b k. denies body b (k, way))) 64 64 denied → Told 0 (OnTest (t .tests) (AssignedAt (to .jump) (to .fall) touched denied)) 64 64 l → Told 0 (λ s x. (j : ℕ) → bit x j ≡ assigned body j (s, way)) 64 64 l
         unfolding assigned
-        assigned-row denied l deny told = told-as 0 _ 64 _ l told (λ s x h p j.
-            p .bits j
-            ∙ ap (λ a. a && ((bit (p .reach .jump) j || bit (p .reach .fall) j) || eqb j s)) (denied-bit denied deny j s)
-            ∙ split (isTest body s)
-            (λ e. let w = paths-of s h e in
-            ap (λ a. denies body j (s, way) && a)
-            ((λ i. (p .reached .jumps (leading s) w j i || p .reached .falls (leading s) w j i) || eqb j s)
-            ∙ (λ i. (leading s (jump-all j i) || leading s (fall-all j i)) || eqb j s)
+        assigned-row denied l deny told = told-as 0 _ 64 _ l told (λ s x h p. by-test s x (AssignedAt (to .jump) (to .fall) touched denied) (λ j. assigned body j (s, way)) p
+            (λ e q j.
+            q (leading s) (paths-of s h e) j
+            ∙ ap (λ a. a && ((leading s (getD (to .jump) j 64) || leading s (getD (to .fall) j 64)) || eqb j s)) (denied-bit denied deny j s)
+            ∙ ap (λ a. denies body j (s, way) && a)
+            ((λ i. (leading s (jump-all j i) || leading s (fall-all j i)) || eqb j s)
             ∙ ap (λ a. a || eqb j s) (sym (some-way body (sound .onward) (block body s .variable) s (test-real body s e) (sound .few) j))
             ∙ or-comm (anyOf (λ o. leading s (o .1)) (exits body j)) (eqb j s)
             ∙ (λ i. eqb j s || anyOf (λ o. clean body (sym (on s) i) (body .count) (o .1) s) (exits body j))))
-            (λ e. let d = denies-test body j (s, way) e in rw d))
+            (λ e j. let d = denies-test body j (s, way) e in rw d))
 
-        jump-row : (opposed l : List ℕ) → Told 0 (Bits (λ s j. opposes body (s, way) (j, 1))) 64 64 opposed → Told 0 (ByJumpAt (to .jump) (to .fall) touched opposed) 64 64 l → Told 0 (λ s x. (j : ℕ) → bit x j ≡ byJump body j (s, way)) 64 64 l
+        jump-row : (opposed l : List ℕ) → Told 0 (Bits (λ s j. opposes body (s, way) (j, 1))) 64 64 opposed → Told 0 (OnTest (t .tests) (LedAt (to .jump) (to .fall) touched opposed (to .jump))) 64 64 l → Told 0 (λ s x. (j : ℕ) → bit x j ≡ byJump body j (s, way)) 64 64 l
         unfolding byJump
-        jump-row opposed l opp told = told-as 0 _ 64 _ l told (λ s x h p j.
-            p .bits j
-            ∙ ap (λ a. a && bit (p .reach .jump) j) (opp .at s h j ∙ opposes-swap body (s, way) (j, 1))
-            ∙ split (isTest body s)
-            (λ e. ap (λ a. opposes body (j, 1) (s, way) && a)
-            (p .reached .jumps (leading s) (paths-of s h e) j ∙ (λ i. clean body (sym (on s) i) (body .count) (jump-all j i) s)))
-            (λ e. let d = opposes-test body (j, 1) (s, way) e in rw d))
+        jump-row opposed l opp told = told-as 0 _ 64 _ l told (λ s x h p. by-test s x (LedAt (to .jump) (to .fall) touched opposed (to .jump)) (λ j. byJump body j (s, way)) p
+            (λ e q j.
+            q (leading s) (paths-of s h e) j
+            ∙ ap (λ a. a && leading s (getD (to .jump) j 64)) (opp .at s h j ∙ opposes-swap body (s, way) (j, 1))
+            ∙ ap (λ a. opposes body (j, 1) (s, way) && a) (λ i. clean body (sym (on s) i) (body .count) (jump-all j i) s))
+            (λ e j. let d = opposes-test body (j, 1) (s, way) e in rw d))
 
-        fall-row : (opposed l : List ℕ) → Told 0 (Bits (λ s j. opposes body (s, way) (j, 2))) 64 64 opposed → Told 0 (ByFallAt (to .jump) (to .fall) touched opposed) 64 64 l → Told 0 (λ s x. (j : ℕ) → bit x j ≡ byFall body j (s, way)) 64 64 l
+        fall-row : (opposed l : List ℕ) → Told 0 (Bits (λ s j. opposes body (s, way) (j, 2))) 64 64 opposed → Told 0 (OnTest (t .tests) (LedAt (to .jump) (to .fall) touched opposed (to .fall))) 64 64 l → Told 0 (λ s x. (j : ℕ) → bit x j ≡ byFall body j (s, way)) 64 64 l
         unfolding byFall
-        fall-row opposed l opp told = told-as 0 _ 64 _ l told (λ s x h p j.
-            p .bits j
-            ∙ ap (λ a. a && bit (p .reach .fall) j) (opp .at s h j ∙ opposes-swap body (s, way) (j, 2))
-            ∙ split (isTest body s)
-            (λ e. ap (λ a. opposes body (j, 2) (s, way) && a)
-            (p .reached .falls (leading s) (paths-of s h e) j ∙ (λ i. clean body (sym (on s) i) (body .count) (fall-all j i) s)))
-            (λ e. let d = opposes-test body (j, 2) (s, way) e in rw d))
+        fall-row opposed l opp told = told-as 0 _ 64 _ l told (λ s x h p. by-test s x (LedAt (to .jump) (to .fall) touched opposed (to .fall)) (λ j. byFall body j (s, way)) p
+            (λ e q j.
+            q (leading s) (paths-of s h e) j
+            ∙ ap (λ a. a && leading s (getD (to .fall) j 64)) (opp .at s h j ∙ opposes-swap body (s, way) (j, 2))
+            ∙ ap (λ a. opposes body (j, 2) (s, way) && a) (λ i. clean body (sym (on s) i) (body .count) (fall-all j i) s))
+            (λ e j. let d = opposes-test body (j, 2) (s, way) e in rw d))
 
         pub firsts-by : (denied jumping falling : List ℕ) (p : Firsts) → Told 0 (Bits (λ b k. denies body b (k, way))) 64 64 denied
             → Told 0 (Bits (λ s j. opposes body (s, way) (j, 1))) 64 64 jumping → Told 0 (Bits (λ s j. opposes body (s, way) (j, 2))) 64 64 falling
-            → FirstsOf (to .jump) (to .fall) touched denied jumping falling p → FirstsBy body way p
+            → FirstsOf (t .tests) (to .jump) (to .fall) touched denied jumping falling p → FirstsBy body way p
         firsts-by denied jumping falling p d a b f = record {
           assigned = assigned-row denied (p .assigned) d (f .assigned);
           jumps = jump-row jumping (p .jump) a (f .jumps);
@@ -263,20 +260,19 @@ module _ (body : Body) where
 
   -- ---- the edges with a first below a block
   module _ (size : length (body .blocks) ≡ 64) (sound : Sound body) (way : ℕ) (p : Firsts) (firsts : FirstsBy body way p)
-      (listed-is : (b s : ℕ) → b ≤ 64 → s < 64 → any b (λ f. paired body f (s, way)) ≡ listedBelow body b (s, way))
+      (listed-is : (b s : ℕ) → b ≤ 64 → s < 64 → any b (λ f. paired body f (s, way)) ≡ listed (conflicts body) b (s, way))
       (all l : List ℕ) (each : Told 0 (EitherAt (p .assigned) (p .jump) (p .fall)) 64 64 all) (told : Told 0 (ListedAt all) 64 64 l) where
     first-bit : (s : ℕ) → s < 64 → (f : ℕ) → bit (getD all s 0) f ≡ paired body f (s, way)
     unfolding paired
     first-bit s h f = each .at s h f ∙ (λ i. firsts .assigned .at s h f i || (firsts .jumps .at s h f i || firsts .falls .at s h f i))
 
-    listed-off : (b s : ℕ) → 64 ≤ s → listedBelow body b (s, way) ≡ false
-    unfolding listedBelow
+    listed-off : (b s : ℕ) → 64 ≤ s → listed (conflicts body) b (s, way) ≡ false
     listed-off b s h = listed-none body (sound .few) b (s, way) (no-test body s (past-64 body size s h))
 
-    pub listed-row : Told 0 (Bits (λ b k. listedBelow body b (k, way))) 64 64 l
+    pub listed-row : Told 0 (Bits (λ b k. listed (conflicts body) b (k, way))) 64 64 l
     listed-row = told-as 0 _ 64 _ l told (λ b x h q k. q k ∙ go b h k (below-or-not k 64))
       where
-        go : (b : ℕ) → b < 64 → (k : ℕ) → (k < 64) ⊎ (64 ≤ k) → any b (λ f. bit (getD all k 0) f) ≡ listedBelow body b (k, way)
+        go : (b : ℕ) → b < 64 → (k : ℕ) → (k < 64) ⊎ (64 ≤ k) → any b (λ f. bit (getD all k 0) f) ≡ listed (conflicts body) b (k, way)
         go b h k (inl g) = any-same b _ _ (first-bit k g) ∙ listed-is b k (omega arith) g
         go b h k (inr g) = any-same b _ (λ f. false) (λ f. ap (λ x. bit x f) (beyond all k 0 (omega (arith, each .size))) ∙ bit-none f) ∙ any-none b ∙ sym (listed-off b k g)
 
@@ -317,27 +313,25 @@ module _ (body : Body) where
     off : (k : ℕ) → 64 ≤ k → isTest body k ≡ false
     off k h = no-test body k (past-64 body size k h)
 
-    listed-of-jump : (b s : ℕ) → b ≤ 64 → s < 64 → any b (λ f. paired body f (s, 1)) ≡ listedBelow body b (s, 1)
-    unfolding listedBelow
+    listed-of-jump : (b s : ℕ) → b ≤ 64 → s < 64 → any b (λ f. paired body f (s, 1)) ≡ listed (conflicts body) b (s, 1)
     listed-of-jump = listed-jump body (sound .few)
 
-    listed-of-fall : (b s : ℕ) → b ≤ 64 → s < 64 → any b (λ f. paired body f (s, 2)) ≡ listedBelow body b (s, 2)
-    unfolding listedBelow
+    listed-of-fall : (b s : ℕ) → b ≤ 64 → s < 64 → any b (λ f. paired body f (s, 2)) ≡ listed (conflicts body) b (s, 2)
     listed-of-fall = listed-fall body (sound .few)
 
-    module _ (jumped fallen : Firsts) (one : FirstsOf (to .jump) (to .fall) (e .touched) (e .jump) (o .jumping .jump) (o .jumping .fall) jumped)
-        (two : FirstsOf (to .jump) (to .fall) (e .touched) (e .fall) (o .falling .jump) (o .falling .fall) fallen) (l : Edges) (listed : ListedOf jumped fallen l) where
+    module _ (jumped fallen : Firsts) (one : FirstsOf (t .tests) (to .jump) (to .fall) (e .touched) (e .jump) (o .jumping .jump) (o .jumping .fall) jumped)
+        (two : FirstsOf (t .tests) (to .jump) (to .fall) (e .touched) (e .fall) (o .falling .jump) (o .falling .fall) fallen) (l : Edges) (lists : ListedOf jumped fallen l) where
       by-one : FirstsBy body 1 jumped
-      by-one = firsts-by size to led sound (e .touched) touch 1 (same-variable 1) (e .jump) (o .jumping .jump) (o .jumping .fall) jumped deny-jump jump-jump jump-fall one
+      by-one = firsts-by size to led sound (e .touched) touch t shown 1 (same-variable 1) (e .jump) (o .jumping .jump) (o .jumping .fall) jumped deny-jump jump-jump jump-fall one
 
       by-two : FirstsBy body 2 fallen
-      by-two = firsts-by size to led sound (e .touched) touch 2 (same-variable 2) (e .fall) (o .falling .jump) (o .falling .fall) fallen deny-fall fall-jump fall-fall two
+      by-two = firsts-by size to led sound (e .touched) touch t shown 2 (same-variable 2) (e .fall) (o .falling .jump) (o .falling .fall) fallen deny-fall fall-jump fall-fall two
 
-      listed-one : Told 0 (Bits (λ b k. listedBelow body b (k, 1))) 64 64 (l .jump)
-      listed-one = listed-row size sound 1 jumped by-one listed-of-jump (listed .by-jump) (l .jump) (listed .all-jump) (listed .jumps)
+      listed-one : Told 0 (Bits (λ b k. listed (conflicts body) b (k, 1))) 64 64 (l .jump)
+      listed-one = listed-row size sound 1 jumped by-one listed-of-jump (lists .by-jump) (l .jump) (lists .all-jump) (lists .jumps)
 
-      listed-two : Told 0 (Bits (λ b k. listedBelow body b (k, 2))) 64 64 (l .fall)
-      listed-two = listed-row size sound 2 fallen by-two listed-of-fall (listed .by-fall) (l .fall) (listed .all-fall) (listed .falls)
+      listed-two : Told 0 (Bits (λ b k. listed (conflicts body) b (k, 2))) 64 64 (l .fall)
+      listed-two = listed-row size sound 2 fallen by-two listed-of-fall (lists .by-fall) (l .fall) (lists .all-fall) (lists .falls)
 
       sets-are : record { targets = to; touched = e .touched; denied = record { jump = e .jump; fall = e .fall }; jumping = o .jumping; falling = o .falling; listed = l } ≡ setsOf body
       unfolding setsOf
@@ -357,8 +351,8 @@ module _ (body : Body) where
           fall = told-rows (λ b k. opposes body (b, 2) (k, 2)) (λ b k h. opposes-test body (b, 2) (k, 2) (off k h)) (o .falling .fall) fall-fall i;
         };
         listed = record {
-          jump = told-rows (λ b k. listedBelow body b (k, 1)) (λ b k h. listed-off size sound 1 jumped by-one listed-of-jump (listed .by-jump) (l .jump) (listed .all-jump) (listed .jumps) b k h) (l .jump) listed-one i;
-          fall = told-rows (λ b k. listedBelow body b (k, 2)) (λ b k h. listed-off size sound 2 fallen by-two listed-of-fall (listed .by-fall) (l .fall) (listed .all-fall) (listed .falls) b k h) (l .fall) listed-two i;
+          jump = told-rows (λ b k. listed (conflicts body) b (k, 1)) (λ b k h. listed-off size sound 1 jumped by-one listed-of-jump (lists .by-jump) (l .jump) (lists .all-jump) (lists .jumps) b k h) (l .jump) listed-one i;
+          fall = told-rows (λ b k. listed (conflicts body) b (k, 2)) (λ b k h. listed-off size sound 2 fallen by-two listed-of-fall (lists .by-fall) (l .fall) (lists .all-fall) (lists .falls) b k h) (l .fall) listed-two i;
         };
       }
 

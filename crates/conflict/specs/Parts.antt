@@ -2,8 +2,8 @@
 use mathlib.Core.Path.{_≡_}
 use mathlib.Core.Bool.{Bool, true, false, not, _&&_, _||_}
 use mathlib.Core.List.{List}
-use Prim.Native.Nat.{ℕ, _≤_, _<_}
-use lib.Dec.{eqb, ltb}
+use Prim.Native.Nat.{ℕ, _+_, _≤_, _<_}
+use lib.Dec.{eqb}
 use lib.IntN.{ℤ, pos}
 use lib.ListN.{length, getD, take}
 use Rattle.laws.specs.Terms.{bit, anyOf, any}
@@ -13,7 +13,7 @@ use Rattle.form.specs.declared.Block.{Block}
 use Rattle.form.specs.declared.Effect.{Effect}
 use Rattle.form.specs.Form.{zeroCounter}
 use Rattle.form.specs.Relation.{opposite}
-use Rattle.form.specs.Conflict.{Condition, noBlock, block, effectsOf, refuses, lastOn, opposes, assigned}
+use Rattle.form.specs.Conflict.{Condition, noBlock, block, effectsOf, refuses, lastOn, assigned}
 use Rattle.relations.specs.PairTest.{shares}
 use Rattle.relations.specs.Joined.{jumpOf, fallOf, byJump, byFall}
 use Rattle.conflict.specs.declared.Tests.{Tests}
@@ -23,7 +23,6 @@ use Rattle.conflict.specs.declared.EffectRows.{EffectRows}
 use Rattle.conflict.specs.declared.Reach.{Reach}
 use Rattle.conflict.specs.declared.Firsts.{Firsts}
 use Rattle.conflict.specs.declared.Edges.{Edges}
-use Rattle.conflict.specs.declared.Sets.{Sets}
 use Rattle.conflict.specs.declared.Opposition.{Opposition}
 use Rattle.conflict.specs.declared.Found.{Found}
 use Rattle.conflict.specs.Sets.{setsOf}
@@ -66,6 +65,11 @@ conditionAt variable relation constant j = record { variable = getD variable j 0
 abbrev pub DeniedBy : (tests : ℕ) (variable relation : List ℕ) (constant : List ℤ) → List Effect → ℕ → Type 0
 DeniedBy tests variable relation constant effects x = (j : ℕ) → bit x j ≡ bit tests j && refuses (lastOn (getD variable j 0) effects) (conditionAt variable relation constant j)
 
+-- for each variable, the tests on it
+pub record OnVariable (tests : ℕ) (variable l : List ℕ) : Type 0 where
+  pub size : length l ≡ 256
+  pub at : (v : ℕ) → v < 256 → (j : ℕ) → bit (getD l v 0) j ≡ bit tests j && eqb (getD variable j 0) v
+
 pub record HitsOf (tests : ℕ) (variable jump fall : List ℕ) (constant : List ℤ) (effects : List Effect) (h : Hits) : Type 0 where
   pub touched : TouchedBy tests variable effects (h .touched)
   pub jumps : DeniedBy tests variable jump constant effects (h .jump)
@@ -93,6 +97,11 @@ EitherAt a j f s x = (k : ℕ) → bit x k ≡ bit (getD a s 0) k || (bit (getD 
 abbrev pub ListedAt : List ℕ → ℕ → ℕ → Type 0
 ListedAt firsts b x = (j : ℕ) → bit x j ≡ any b (λ f. bit (getD firsts j 0) f)
 
+-- for each b, those j whose lowest first is b
+pub record LowestFirsts (firsts l : List ℕ) : Type 0 where
+  pub size : length l ≡ 64
+  pub at : (b : ℕ) → b < 64 → (j : ℕ) → any (b + 1) (λ f. bit (getD firsts j 0) f) ≡ (any b (λ f. bit (getD firsts j 0) f) || bit (getD l b 0) j)
+
 -- each target is above its block
 abbrev pub Above : List ℕ → Type 0
 Above targets = (b : ℕ) → b < 64 → b < getD targets b 64
@@ -106,30 +115,31 @@ pub record Paths (jump fall touched : List ℕ) (s : ℕ) (P : ℕ → Bool) : T
 abbrev pub Leading : (jump fall touched : List ℕ) → ℕ → (targets : List ℕ) → ℕ → Type 0
 Leading jump fall touched s targets x = (P : ℕ → Bool) → Paths jump fall touched s P → (j : ℕ) → bit x j ≡ P (getD targets j 64)
 
-pub record ReachOf (jump fall touched : List ℕ) (s : ℕ) (r : Reach) : Type 0 where
+-- the firsts of the edge of block s by one way: the blocks of its assignments, and those that lead to it by one of their ways
+abbrev pub AssignedAt : (jump fall touched denied : List ℕ) → (s x : ℕ) → Type 0
+AssignedAt jump fall touched denied s x =
+    (P : ℕ → Bool) → Paths jump fall touched s P → (j : ℕ) → bit x j ≡ (bit (getD denied j 0) s && ((P (getD jump j 64) || P (getD fall j 64)) || eqb j s))
+
+abbrev pub LedAt : (jump fall touched opposed targets : List ℕ) → (s x : ℕ) → Type 0
+LedAt jump fall touched opposed targets s x = (P : ℕ → Bool) → Paths jump fall touched s P → (j : ℕ) → bit x j ≡ (bit (getD opposed s 0) j && P (getD targets j 64))
+
+pub record ReachOf (jump fall touched denied : List ℕ) (s : ℕ) (r : Reach) : Type 0 where
   pub jumps : Leading jump fall touched s jump (r .jump)
   pub falls : Leading jump fall touched s fall (r .fall)
+  pub assigned : AssignedAt jump fall touched denied s (r .assigned)
 
--- the firsts of the edge of block s by one way: the blocks of its assignments, and those that lead to it by jump or by fall
-pub record AssignedAt (jump fall touched denied : List ℕ) (s x : ℕ) : Type 0 where
-  pub reach : Reach
-  pub reached : ReachOf jump fall touched s reach
-  pub bits : (j : ℕ) → bit x j ≡ bit (getD denied j 0) s && ((bit (reach .jump) j || bit (reach .fall) j) || eqb j s)
+abbrev pub noReach : Reach
+noReach = record { jump = 0; fall = 0; assigned = 0 }
 
-pub record ByJumpAt (jump fall touched opposed : List ℕ) (s x : ℕ) : Type 0 where
-  pub reach : Reach
-  pub reached : ReachOf jump fall touched s reach
-  pub bits : (j : ℕ) → bit x j ≡ bit (getD opposed s 0) j && bit (reach .jump) j
+-- what holds of a word where s is a test; else the word is empty
+pub record OnTest (tests : ℕ) (P : ℕ → ℕ → Type 0) (s x : ℕ) : Type 0 where
+  pub on : bit tests s ≡ true → P s x
+  pub off : bit tests s ≡ false → (j : ℕ) → bit x j ≡ false
 
-pub record ByFallAt (jump fall touched opposed : List ℕ) (s x : ℕ) : Type 0 where
-  pub reach : Reach
-  pub reached : ReachOf jump fall touched s reach
-  pub bits : (j : ℕ) → bit x j ≡ bit (getD opposed s 0) j && bit (reach .fall) j
-
-pub record FirstsOf (jump fall touched denied jumping falling : List ℕ) (p : Firsts) : Type 0 where
-  pub assigned : Told 0 (AssignedAt jump fall touched denied) 64 64 (p .assigned)
-  pub jumps : Told 0 (ByJumpAt jump fall touched jumping) 64 64 (p .jump)
-  pub falls : Told 0 (ByFallAt jump fall touched falling) 64 64 (p .fall)
+pub record FirstsOf (tests : ℕ) (jump fall touched denied jumping falling : List ℕ) (p : Firsts) : Type 0 where
+  pub assigned : Told 0 (OnTest tests (AssignedAt jump fall touched denied)) 64 64 (p .assigned)
+  pub jumps : Told 0 (OnTest tests (LedAt jump fall touched jumping jump)) 64 64 (p .jump)
+  pub falls : Told 0 (OnTest tests (LedAt jump fall touched falling fall)) 64 64 (p .fall)
 
 -- the edges that each test's edges oppose, by both ways of both
 pub record OpposedOf (tests : ℕ) (variable jump fall : List ℕ) (constant : List ℤ) (r : Opposition) : Type 0 where

@@ -2,20 +2,13 @@
 -- only. Rests on form's Conflict and on the rows of words.Tabled.
 use mathlib.Core.Bool.{Bool, cond, _&&_}
 use mathlib.Core.List.{List, [], _∷_}
-use Prim.Native.Nat.{ℕ, _≤_}
-use lib.Dec.{eqb, ltb}
-use Rattle.laws.specs.Terms.{anyOf}
+use Prim.Native.Nat.{ℕ}
+use lib.Dec.{eqb}
 use Rattle.words.specs.Tabled.{tabled, rows}
 use Rattle.form.specs.declared.Body.{Body}
-use Rattle.form.specs.Conflict.{Edge, block, touches, exits, isTest, opposes, denies, Onward, Pair, conflicts}
+use Rattle.form.specs.Conflict.{Edge, block, touches, exits, isTest, opposes, denies, listed, conflicts}
 use Rattle.conflict.specs.declared.Edges.{Edges}
-use Rattle.conflict.specs.declared.Targets.{Targets}
 use Rattle.conflict.specs.declared.Sets.{Sets}
-
--- what is asked of a body; the reader sees to it (relations.Accepted)
-pub record Sound (body : Body) : Type 0 where
-  pub few : body .count ≤ 64
-  pub onward : Onward body
 
 -- where a way leads, 64 where there is no such way
 abbrev pub wayTo : ℕ → List (ℕ × ℕ) → ℕ
@@ -26,12 +19,8 @@ wayTo way (o ∷ l) = cond (eqb (o .0) way) (o .1) (wayTo way l)
 abbrev pub edgeRows : (ℕ → Edge → Bool) → Edges
 edgeRows f = record { jump = rows (λ b k. f b (k, 1)); fall = rows (λ b k. f b (k, 2)) }
 
--- the conflict list pairs e as second with a first in a block below b
-unfoldable pub listedBelow : Body → ℕ → Edge → Bool
-listedBelow body b e = anyOf (λ p. (eqb (p .second) (e .0) && eqb (p .outcome) (e .1)) && ltb (p .first) b) (conflicts body)
-
 -- touched: the tests whose variable b has an effect on; denied: the edges that b's last effect on their variable, a constant, conflicts with; jumping, falling: the
--- edges that b's edge by jump, by fall, conflicts with; listed: the edges with a first below b
+-- edges that b's edge by jump, by fall, conflicts with; listed: the edges that the conflict list pairs with a first below b
 unfoldable pub setsOf : Body → Sets
 setsOf body = record {
   targets = record { jump = tabled 64 (λ b. wayTo 1 (exits body b)); fall = tabled 64 (λ b. wayTo 2 (exits body b)) };
@@ -39,5 +28,5 @@ setsOf body = record {
   denied = edgeRows (denies body);
   jumping = edgeRows (λ b e. opposes body (b, 1) e);
   falling = edgeRows (λ b e. opposes body (b, 2) e);
-  listed = edgeRows (listedBelow body);
+  listed = edgeRows (listed (conflicts body));
 }

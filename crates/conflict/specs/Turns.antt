@@ -1,8 +1,8 @@
 -- One turn of the loop over a block's effects: the words after one more effect. Rests on Parts and on relations.Effects.
-use mathlib.Core.Path.{_≡_, refl, sym, ap, ap₂, subst, _∙_}
+use mathlib.Core.Path.{_≡_, sym, ap, ap₂, subst, _∙_}
 use mathlib.Core.Bool.{Bool, true, false, not, _&&_, _||_}
 use mathlib.Core.List.{List, [], _∷_, _++_}
-use Prim.Native.Nat.{ℕ, suc, _+_}
+use Prim.Native.Nat.{ℕ, _+_}
 use native.Mathlib.Numerals.{add-one}
 use lib.Dec.{eqb}
 use lib.IntN.{ℤ, pos}
@@ -16,7 +16,6 @@ use Rattle.form.specs.Relation.{meets}
 use Rattle.form.specs.Conflict.{block, effectsBelow, effectsOf, refuses, lastOn}
 use Rattle.relations.specs.PairTest.{shares, equal-is}
 use Rattle.relations.specs.Effects.{Reached, Within, reached-next, own-part, anyOf-last, refuses-more, touch-turn, deny-turn}
-use Rattle.conflict.specs.declared.Hits.{Hits}
 use Rattle.conflict.specs.Parts.{blockIn, withParts, HitsOf}
 
 nothing : (j : ℕ) (t : Bool) → bit 0 j ≡ (t && false)

@@ -1,56 +1,51 @@
--- What the contracts leave: one answer and one content of the lent bytes for each public call; and what the pair test's answer says in the document's words. Rests on
--- Pair, Sets, Answer and relations.Conditions.
-use mathlib.Core.Path.{_≡_, refl, sym, ap, _∙_}
-use mathlib.Core.Logic.{_↔_}
-use mathlib.Core.Bool.{Bool, true, false}
+-- The contracts of `sets_of` and `find` leave one answer. Rests on Sets and Parts.
+use mathlib.Core.Path.{_≡_, sym, _∙_}
+use mathlib.Core.Bool.{Bool}
 use mathlib.Core.List.{List}
 use Prim.Native.Nat.{ℕ}
-use lib.IntN.{ℤ}
-use lib.ListN.{length}
-use Rattle.laws.specs.Terms.{digit}
+use native.Mathlib.Omega.{arith}
+use lib.ListN.{getD}
+use lib.Seq.{ext-getD}
+use Rattle.laws.specs.Terms.{bit}
+use Rattle.words.specs.Tabled.{tabled}
+use Rattle.words.specs.Filled.{Told, same-bits, told-tabled}
 use Rattle.form.specs.declared.Body.{Body}
-use Rattle.form.specs.Form.{bodyOf}
-use Rattle.form.specs.Relation.{meets}
-use Rattle.form.specs.Conflict.{conflicts, conflictBytes}
-use Rattle.relations.specs.Conditions.{contradict-says}
-use Rattle.conflict.specs.declared.Listed.{Listed}
-use Rattle.conflict.specs.declared.ListAnswer.{ListAnswer}
+use Rattle.form.specs.Conflict.{block, assigned}
+use Rattle.relations.specs.Joined.{byJump, byFall}
+use Rattle.conflict.specs.declared.Firsts.{Firsts}
+use Rattle.conflict.specs.declared.Found.{Found}
 use Rattle.conflict.specs.declared.Sets.{Sets}
-use Rattle.conflict.specs.Pair.{condition, conflicting}
 use Rattle.conflict.specs.Sets.{setsOf}
-use Rattle.conflict.specs.Answer.{listing, heldAfter, exported}
-
--- ---- the pair test: true exactly where no whole number meets both, so one answer
-
-module _ (relation1 : ℕ) (constant1 : ℤ) (relation2 : ℕ) (constant2 : ℤ) where
-  pub pair-says : (conflicting relation1 constant1 relation2 constant2 ≡ true) ↔ ((x : ℤ) → meets relation1 x constant1 ≡ true → meets relation2 x constant2 ≡ true → ⊥)
-  pair-says =
-      let says = contradict-says (condition relation1 constant1) (condition relation2 constant2) in
-      (λ h. (says .0 h) .none-meets-both, λ none. says .1 (record { alike = refl; none-meets-both = none }))
-
-  pub one-conflicting : (a b : Bool) → a ≡ conflicting relation1 constant1 relation2 constant2 → b ≡ conflicting relation1 constant1 relation2 constant2 → a ≡ b
-  one-conflicting a b p q = p ∙ sym q
-
-  pub one-pair : (a b : ℕ) → a ≡ digit (conflicting relation1 constant1 relation2 constant2) → b ≡ digit (conflicting relation1 constant1 relation2 constant2) → a ≡ b
-  one-pair a b p q = p ∙ sym q
-
--- ---- the sets, and the number of entries, of a body
+use Rattle.conflict.specs.Parts.{FirstsBy, FoundOf}
 
 pub one-sets : (body : Body) (a b : Sets) → a ≡ setsOf body → b ≡ setsOf body → a ≡ b
 one-sets body a b p q = p ∙ sym q
 
-pub one-entries : (body : Body) (a b : ℕ) → a ≡ length (conflicts body) → b ≡ length (conflicts body) → a ≡ b
-one-entries body a b p q = p ∙ sym q
+-- rows of words, told bit by bit
+module _ (f : ℕ → ℕ → Bool) (a b : List ℕ) where
+  rows-once : Told 0 (λ s x. (j : ℕ) → bit x j ≡ f s j) 64 64 a → Told 0 (λ s x. (j : ℕ) → bit x j ≡ f s j) 64 64 b → a ≡ b
+  rows-once p q =
+      ext-getD 0 a b (p .size ∙ sym (q .size))
+      (λ i h. same-bits (getD a i 0) (getD b i 0) (λ k. p .at i (omega (arith, p .size)) k ∙ sym (q .at i (omega (arith, p .size)) k)))
 
--- ---- the list: the answer, and the lent bytes after it
+firsts-once : (body : Body) (way : ℕ) (a b : Firsts) → FirstsBy body way a → FirstsBy body way b → a ≡ b
+firsts-once body way a b p q =
+    λ i.
+    record {
+      assigned = rows-once (λ s j. assigned body j (s, way)) (a .assigned) (b .assigned) (p .assigned) (q .assigned) i;
+      jump = rows-once (λ s j. byJump body j (s, way)) (a .jump) (b .jump) (p .jumps) (q .jumps) i;
+      fall = rows-once (λ s j. byFall body j (s, way)) (a .fall) (b .fall) (p .falls) (q .falls) i;
+    }
 
-module _ (form before : List ℕ) where
-  pub one-list : (a b : Listed) (x y : List ℕ)
-      → a ≡ listing form (length before) → x ≡ heldAfter a (conflictBytes (bodyOf form)) before
-      → b ≡ listing form (length before) → y ≡ heldAfter b (conflictBytes (bodyOf form)) before → (a ≡ b) × (x ≡ y)
-  one-list a b x y p u q v = (p ∙ sym q, u ∙ ap (λ (r : Listed). heldAfter r (conflictBytes (bodyOf form)) before) (p ∙ sym q) ∙ sym v)
-
-  pub one-export : (a b : ListAnswer) (x y : List ℕ)
-      → a ≡ exported (listing form (length before)) → x ≡ heldAfter (listing form (length before)) (conflictBytes (bodyOf form)) before
-      → b ≡ exported (listing form (length before)) → y ≡ heldAfter (listing form (length before)) (conflictBytes (bodyOf form)) before → (a ≡ b) × (x ≡ y)
-  one-export a b x y p u q v = (p ∙ sym q, u ∙ sym v)
+pub one-found : (body : Body) (a b : Found) → FoundOf body a → FoundOf body b → a ≡ b
+one-found body a b p q =
+    λ i.
+    record {
+      sets = (p .sets ∙ sym (q .sets)) i;
+      variable = (variables a p ∙ sym (variables b q)) i;
+      jumped = firsts-once body 1 (a .jumped) (b .jumped) (p .jumped) (q .jumped) i;
+      fallen = firsts-once body 2 (a .fallen) (b .fallen) (p .fallen) (q .fallen) i;
+    }
+  where
+    variables : (r : Found) → FoundOf body r → r .variable ≡ tabled 64 (λ k. block body k .variable)
+    variables r o = told-tabled (λ k. block body k .variable) 0 64 (r .variable) (o .variables)

@@ -1,110 +1,21 @@
-// The conflicts of document 01: the pair test, the sets of edges that the walks need, and the conflict list. Each call answers for all bytes; the
-// meaning of each is in specs/ and in form's Conflict.
+// The conflicts of a body: the sets of edges that the walks need, and for each edge the firsts that the conflict list pairs with it. The meaning is in specs/ and in
+// form's Conflict.
 ghost use mathlib.Core.Path.{_≡_};
-ghost use mathlib.Core.List.{_++_};
-ghost use mathlib.Core.Bool.{_&&_, _||_, not};
+ghost use mathlib.Core.Bool.{true, false, _&&_, not};
 ghost use Prim.Native.Nat.{ℕ, _+_, _≤_, _<_};
 ghost use lib.Dec.{eqb, ltb};
 ghost use lib.ListN.{length, getD, take, drop};
-ghost use lib.IntN.{ℤ, pos, _-ℤ_};
-ghost use lib.Signed.{ltZ};
-ghost use lib.Seq.{sets};
-ghost use lib.Count.{ones};
-ghost use Rattle.laws.specs.Terms.{digit, bit, each, range};
-ghost use Rattle.form.specs.Form.{when, bodyOf};
-ghost use Rattle.form.specs.Conflict.{noBlock, conflicts, conflictBytes};
-ghost use Rattle.form.specs.Relation.{eqZ, opposite};
-ghost use Rattle.relations.specs.PairTest.{low, level, high, apart, someOf, shares};
+ghost use lib.IntN.{pos};
+ghost use Rattle.laws.specs.Terms.{bit};
+ghost use Rattle.form.specs.Form.{when};
+ghost use Rattle.form.specs.Conflict.{noBlock, Sound};
+ghost use Rattle.form.specs.Relation.{opposite};
+ghost use Rattle.relations.specs.PairTest.{shares};
 ghost use Rattle.words.specs.Filled.{Told};
-ghost use Rattle.words.specs.Sums.{sum};
 ghost use Rattle.relations.specs.Effects.{Within};
-ghost use Rattle.conflict.specs.Pair.{conflicting};
-ghost use Rattle.conflict.specs.Laying.{entryBytes, wordBytes, edgeBytes};
-ghost use Rattle.conflict.specs.Listing.{allBytes, bitsOf, Rows};
-ghost use Rattle.conflict.specs.Answer.{listedIn, listing, heldAfter, exported};
 ghost use Rattle.relations.specs.Joined.{target};
-ghost use Rattle.conflict.specs.Sets.{Sound, setsOf};
-ghost use Rattle.conflict.specs.Parts.{blockIn, withParts, TestsOf, TargetsOf, Sizes, HitsOf, EffectRowsOf, AlikeAt, OpposedAt, EitherAt, ListedAt, Above, ReachOf, FirstsOf, OpposedOf, ListedOf, FoundOf};
-
-// ---- the pair test: constants are compared, never subtracted
-
-// Whether the numbers below the constant meet the relation to it.
-fn low(relation: u8) -> bool
-    ensures { λ r. ⌜ r ≡ low relation ⌝ }
-{
-    (relation == 1) | ((relation == 2) | (relation == 5))
-}
-
-// Whether the constant meets it.
-fn level(relation: u8) -> bool
-    ensures { λ r. ⌜ r ≡ level relation ⌝ }
-{
-    (relation == 0) | ((relation == 3) | (relation == 5))
-}
-
-// Whether the numbers above the constant meet it.
-fn high(relation: u8) -> bool
-    ensures { λ r. ⌜ r ≡ high relation ⌝ }
-{
-    (relation == 1) | ((relation == 3) | (relation == 4))
-}
-
-fn before(a: i32, b: i32) -> bool
-    ensures { λ r. ⌜ r ≡ ltZ a b ⌝ }
-{
-    a < b
-}
-
-// Whether a whole number lies between a and b: where a is below b, b has a predecessor.
-fn apart(a: i32, b: i32) -> bool
-    ensures { λ r. ⌜ r ≡ apart a b ⌝ }
-{
-    if a < b { a < b - 1 } else { false }
-}
-
-fn some_of(p: bool, q: bool, s: bool, x: bool, y: bool, z: bool) -> bool
-    ensures { λ r. ⌜ r ≡ someOf p q s x y z ⌝ }
-{
-    (p & x) | ((q & y) | (s & z))
-}
-
-// Whether no whole number has both relations, each to its constant.
-pub fn conflicting(relation1: u8, constant1: i32, relation2: u8, constant2: i32) -> bool
-    ensures { λ r. ⌜ r ≡ conflicting relation1 constant1 relation2 constant2 ⌝ }
-{
-    let less = before(constant1, constant2);
-    let more = before(constant2, constant1);
-    let after = apart(constant1, constant2);
-    let ahead = apart(constant2, constant1);
-    let l = low(relation2);
-    let e = level(relation2);
-    let h = high(relation2);
-    let under = some_of(l, e, h, true, more, ahead);
-    let at = some_of(l, e, h, less, !less & !more, more);
-    let over = some_of(l, e, h, after, less, true);
-    !some_of(
-        low(relation1),
-        level(relation1),
-        high(relation1),
-        under,
-        at,
-        over,
-    )
-}
-
-// The pair test, asked from C: 1 where the two conditions conflict, else 0.
-#[no_mangle]
-pub extern "C" fn conflict_pair(relation1: u8, constant1: i32, relation2: u8, constant2: i32) -> u8
-    ensures { λ r. ⌜ r ≡ digit (conflicting relation1 constant1 relation2 constant2) ⌝ }
-{
-    if conflicting(relation1, constant1, relation2, constant2) {
-        1
-    } else {
-        0
-    }
-}
-
-// ---- blocks and effects as words and lists of numbers
+ghost use Rattle.conflict.specs.Sets.{setsOf};
+ghost use Rattle.conflict.specs.Parts.{blockIn, withParts, TestsOf, TargetsOf, Sizes, HitsOf, EffectRowsOf, OnVariable, AlikeAt, OpposedAt, EitherAt, ListedAt, LowestFirsts, Above, noReach, ReachOf, FirstsOf, OpposedOf, ListedOf, FoundOf};
 
 // The tests of a body: which blocks they are, and each block's variable, relation by jump and by fall, and constant.
 struct Tests {
@@ -113,20 +24,6 @@ struct Tests {
     jump: [u8; 64],
     fall: [u8; 64],
     constant: [i32; 64],
-}
-
-// What the conflict list answers: how many bytes it wrote, or the refusal's number and place.
-pub enum Listed {
-    Bytes(usize),
-    Unlisted { number: u32, place: usize },
-}
-
-// The same for C: number 0 with the bytes written, or the refusal's number and place.
-#[repr(C)]
-pub struct ListAnswer {
-    pub number: u64,
-    pub place: u64,
-    pub bytes: u64,
 }
 
 // Where each block's jump and fall lead; 64 where it has no such way.
@@ -241,28 +138,19 @@ fn targets_of(count: usize, blocks: [form::Block; 64]) -> Targets
     Targets { jump, fall }
 }
 
-// The tests on variable v.
-fn on_variable(tests: u64, variable: &[u8], v: u8) -> u64
+// For each variable, the tests on it.
+fn tests_by_variable(tests: u64, variable: &[u8]) -> [u64; 256]
     requires { ⌜ length (now variable) ≡ 64 ⌝ }
-    ensures { λ r. ⌜ ((j : ℕ) → bit r j ≡ bit tests j && eqb (getD (now (variable .entry)) j 0) v) ⌝ }
+    ensures { λ r. ⌜ OnVariable tests (now (variable .entry)) r ⌝ }
 {
-    let mut r = 0;
-    let mut j = 0;
-    while j < 64 {
-        r = words::put(r, j, words::has(tests, j) & (variable[j] == v));
-        j += 1;
+    let mut r = [0; 256];
+    let mut i = 0;
+    while i < 64 {
+        let v = variable[i] as usize;
+        r[v] = words::put(r[v], i, words::has(tests, i));
+        i += 1;
     }
     r
-}
-
-fn opposed_if(asked: bool, relation1: u8, constant1: i32, relation2: u8, constant2: i32) -> bool
-    ensures { λ r. ⌜ r ≡ asked && not (shares relation1 constant1 relation2 constant2) ⌝ }
-{
-    if asked {
-        conflicting(relation1, constant1, relation2, constant2)
-    } else {
-        false
-    }
 }
 
 // Those of the set whose relation to their constant no whole number has together with the relation to the constant.
@@ -271,29 +159,12 @@ fn opposed(set: u64, relations: &[u8], constants: &[i32], relation: u8, constant
     ensures { λ r. ⌜ ((j : ℕ) → bit r j ≡ bit set j && not (shares relation constant (getD (now (relations .entry)) j 0) (getD (now (constants .entry)) j (pos 0)))) ⌝ }
 {
     let mut r = 0;
-    let mut j = 0;
-    while j < 64 {
-        let asked = words::has(set, j);
-        r = words::put(
-            r,
-            j,
-            opposed_if(asked, relation, constant, relations[j], constants[j]),
-        );
-        j += 1;
-    }
-    r
-}
-
-// Column s of a square of bits.
-fn column(rows: &[u64], s: usize) -> u64
-    requires { ⌜ length (now rows) ≡ 64 ⌝ }
-    ensures { λ r. ⌜ ((j : ℕ) → bit r j ≡ bit (getD (now (rows .entry)) j 0) s) ⌝ }
-{
-    let mut r = 0;
-    let mut j = 0;
-    while j < 64 {
-        r = words::put(r, j, words::has(rows[j], s));
-        j += 1;
+    let mut left = set;
+    while left != 0 {
+        let j = words::lowest(left);
+        let against = pair::conflicting(relation, constant, relations[j], constants[j]);
+        r = words::put(r, j, against);
+        left = words::rest(left);
     }
     r
 }
@@ -302,6 +173,7 @@ fn column(rows: &[u64], s: usize) -> u64
 fn hits_of(
     tests: u64,
     variable: &[u8],
+    groups: &[u64],
     jump: &[u8],
     fall: &[u8],
     constant: &[i32],
@@ -309,7 +181,7 @@ fn hits_of(
     from: usize,
     own: usize,
 ) -> Hits
-    requires { ⌜ Sizes (now variable) (now jump) (now fall) (now constant) × (from + own ≤ 256) ⌝ }
+    requires { ⌜ Sizes (now variable) (now jump) (now fall) (now constant) × (OnVariable tests (now variable) (now groups) × (from + own ≤ 256)) ⌝ }
     ensures { λ r. ⌜ HitsOf tests (now (variable .entry)) (now (jump .entry)) (now (fall .entry)) (now (constant .entry)) (take own (drop from effects)) r ⌝ }
 {
     let mut touched = 0;
@@ -319,7 +191,8 @@ fn hits_of(
     while k < own {
         let a = effects[from + k];
         let value = a.constant;
-        let on = on_variable(tests, variable, a.variable);
+        let v = a.variable as usize;
+        let on = groups[v];
         let set = words::only(a.how == 1, on);
         touched = words::either(touched, on);
         by_jump = words::either(
@@ -355,17 +228,19 @@ struct EffectRows {
     fall: [u64; 64],
 }
 
-// The blocks from which a jump, and those from which a fall, leads to a clean path.
+// The blocks from which a jump, and those from which a fall, leads to a clean path to a test; and those whose effects deny the test's edge by one way and
+// from which such a path leads, or which are its own.
 struct Reach {
     jump: u64,
     fall: u64,
+    assigned: u64,
 }
 
 // For each block's edge by one way, the blocks that the conflict list pairs with it as firsts: by assignment, by their jump edge and by their fall edge.
-struct Firsts {
-    assigned: [u64; 64],
-    jump: [u64; 64],
-    fall: [u64; 64],
+pub struct Firsts {
+    pub assigned: [u64; 64],
+    pub jump: [u64; 64],
+    pub fall: [u64; 64],
 }
 
 fn effect_rows(
@@ -381,6 +256,7 @@ fn effect_rows(
     requires { ⌜ Sizes (now variable) (now jump) (now fall) (now constant) ⌝ }
     ensures { λ r. ⌜ EffectRowsOf (withParts count blocks effects) tests (now (variable .entry)) (now (jump .entry)) (now (fall .entry)) (now (constant .entry)) r ⌝ }
 {
+    let groups = tests_by_variable(tests, variable);
     let mut touched = [0; 64];
     let mut by_jump = [0; 64];
     let mut by_fall = [0; 64];
@@ -389,7 +265,17 @@ fn effect_rows(
     while b < 64 {
         let k = own_block(count, b, blocks[b]);
         let own = within(from, k.effects);
-        let h = hits_of(tests, variable, jump, fall, constant, effects, from, own);
+        let h = hits_of(
+            tests,
+            variable,
+            &groups,
+            jump,
+            fall,
+            constant,
+            effects,
+            from,
+            own,
+        );
         touched[b] = h.touched;
         by_jump[b] = h.jump;
         by_fall[b] = h.fall;
@@ -407,13 +293,12 @@ fn alike_rows(tests: u64, variable: &[u8]) -> [u64; 64]
     requires { ⌜ length (now variable) ≡ 64 ⌝ }
     ensures { λ r. ⌜ Told 0 (AlikeAt tests (now (variable .entry))) 64 64 r ⌝ }
 {
+    let groups = tests_by_variable(tests, variable);
     let mut r = [0; 64];
     let mut b = 0;
     while b < 64 {
-        r[b] = words::only(
-            words::has(tests, b),
-            on_variable(tests, variable, variable[b]),
-        );
+        let v = variable[b] as usize;
+        r[b] = words::only(words::has(tests, b), groups[v]);
         b += 1;
     }
     r
@@ -433,27 +318,53 @@ fn opposed_rows(alike: &[u64], first: &[u8], second: &[u8], constant: &[i32]) ->
     r
 }
 
-// From which blocks a jump or a fall leads to s by a path that does not touch test s: the blocks from s down.
-fn reach_of(jump: &[usize], fall: &[usize], touched: &[u64], s: usize) -> Reach
-    requires { ⌜ ((length (now jump) ≡ 64) × ((length (now fall) ≡ 64) × (length (now touched) ≡ 64))) × ((s < 64) × (Above (now jump) × Above (now fall))) ⌝ }
-    ensures { λ r. ⌜ ReachOf (now (jump .entry)) (now (fall .entry)) (now (touched .entry)) s r ⌝ }
+// From which blocks a jump or a fall leads to s by a path that does not touch test s, and which assign against its edge: the blocks from s down.
+fn reach_of(jump: &[usize], fall: &[usize], touched: &[u64], denied: &[u64], s: usize) -> Reach
+    requires { ⌜ ((length (now jump) ≡ 64) × ((length (now fall) ≡ 64) × ((length (now touched) ≡ 64) × (length (now denied) ≡ 64)))) × ((s < 64) × (Above (now jump) × Above (now fall))) ⌝ }
+    ensures { λ r. ⌜ ReachOf (now (jump .entry)) (now (fall .entry)) (now (touched .entry)) (now (denied .entry)) s r ⌝ }
 {
     let mut clean = 0;
     let mut by_jump = 0;
     let mut by_fall = 0;
+    let mut assigned = 0;
     let mut b = s + 1;
     while b > 0 {
         b -= 1;
         let j = words::has(clean, jump[b]);
         let f = words::has(clean, fall[b]);
         let t = words::has(touched[b], s);
+        let d = words::has(denied[b], s);
         by_jump = words::put(by_jump, b, j);
         by_fall = words::put(by_fall, b, f);
+        assigned = words::put(assigned, b, d & ((j | f) | (b == s)));
         clean = words::put(clean, b, !t & ((b == s) | (j | f)));
     }
     Reach {
         jump: by_jump,
         fall: by_fall,
+        assigned,
+    }
+}
+
+// The same where s is a test; nothing where it is none.
+fn reach_if(
+    test: bool,
+    jump: &[usize],
+    fall: &[usize],
+    touched: &[u64],
+    denied: &[u64],
+    s: usize,
+) -> Reach
+    requires { ⌜ ((length (now jump) ≡ 64) × ((length (now fall) ≡ 64) × ((length (now touched) ≡ 64) × (length (now denied) ≡ 64)))) × ((s < 64) × (Above (now jump) × Above (now fall))) ⌝ }
+    ensures { λ r. ⌜ (test ≡ true → ReachOf (now (jump .entry)) (now (fall .entry)) (now (touched .entry)) (now (denied .entry)) s r) × (test ≡ false → r ≡ noReach) ⌝ }
+{
+    if test {
+        return reach_of(jump, fall, touched, denied, s);
+    }
+    Reach {
+        jump: 0,
+        fall: 0,
+        assigned: 0,
     }
 }
 
@@ -471,17 +382,34 @@ fn all_firsts(assigned: &[u64], jump: &[u64], fall: &[u64]) -> [u64; 64]
     r
 }
 
+// For each block, those whose lowest first it is.
+fn lowest_firsts(firsts: &[u64]) -> [u64; 64]
+    requires { ⌜ length (now firsts) ≡ 64 ⌝ }
+    ensures { λ r. ⌜ LowestFirsts (now (firsts .entry)) r ⌝ }
+{
+    let mut r = [0; 64];
+    let mut s = 0;
+    while s < 64 {
+        let all = firsts[s];
+        let f = words::lowest(all);
+        r[f] = words::put(r[f], s, all != 0);
+        s += 1;
+    }
+    r
+}
+
 // For each b, those that have a first below b.
 fn listed_rows(firsts: &[u64]) -> [u64; 64]
     requires { ⌜ length (now firsts) ≡ 64 ⌝ }
     ensures { λ r. ⌜ Told 0 (ListedAt (now (firsts .entry))) 64 64 r ⌝ }
 {
+    let lowest = lowest_firsts(firsts);
     let mut r = [0; 64];
     let mut all = 0;
     let mut b = 0;
     while b < 64 {
         r[b] = all;
-        all = words::either(all, column(firsts, b));
+        all = words::either(all, lowest[b]);
         b += 1;
     }
     r
@@ -489,6 +417,7 @@ fn listed_rows(firsts: &[u64]) -> [u64; 64]
 
 // The firsts of the edges by one way, from the edges that each block's effects deny and those that each edge opposes, by jump and by fall.
 fn firsts_of(
+    tests: u64,
     jump: &[usize],
     fall: &[usize],
     touched: &[u64],
@@ -497,16 +426,15 @@ fn firsts_of(
     falling: &[u64],
 ) -> Firsts
     requires { ⌜ ((length (now jump) ≡ 64) × ((length (now fall) ≡ 64) × (length (now touched) ≡ 64))) × (((length (now denied) ≡ 64) × ((length (now jumping) ≡ 64) × (length (now falling) ≡ 64))) × (Above (now jump) × Above (now fall))) ⌝ }
-    ensures { λ r. ⌜ FirstsOf (now (jump .entry)) (now (fall .entry)) (now (touched .entry)) (now (denied .entry)) (now (jumping .entry)) (now (falling .entry)) r ⌝ }
+    ensures { λ r. ⌜ FirstsOf tests (now (jump .entry)) (now (fall .entry)) (now (touched .entry)) (now (denied .entry)) (now (jumping .entry)) (now (falling .entry)) r ⌝ }
 {
     let mut assigned = [0; 64];
     let mut jumps = [0; 64];
     let mut falls = [0; 64];
     let mut s = 0;
     while s < 64 {
-        let r = reach_of(jump, fall, touched, s);
-        let near = words::with(words::either(r.jump, r.fall), s);
-        assigned[s] = words::both(column(denied, s), near);
+        let r = reach_if(words::has(tests, s), jump, fall, touched, denied, s);
+        assigned[s] = r.assigned;
         jumps[s] = words::both(jumping[s], r.jump);
         falls[s] = words::both(falling[s], r.fall);
         s += 1;
@@ -574,24 +502,24 @@ fn effects_by(
     )
 }
 
-fn firsts_by(to: Targets, e: EffectRows, denied: [u64; 64], opposed: Edges) -> Firsts
+fn firsts_by(tests: u64, to: Targets, e: EffectRows, denied: [u64; 64], opposed: Edges) -> Firsts
     requires { ⌜ ((length (to .jump) ≡ 64) × ((length (to .fall) ≡ 64) × (length (e .touched) ≡ 64))) × (((length denied ≡ 64) × ((length (opposed .jump) ≡ 64) × (length (opposed .fall) ≡ 64))) × (Above (to .jump) × Above (to .fall))) ⌝ }
-    ensures { λ r. ⌜ FirstsOf (to .jump) (to .fall) (e .touched) denied (opposed .jump) (opposed .fall) r ⌝ }
+    ensures { λ r. ⌜ FirstsOf tests (to .jump) (to .fall) (e .touched) denied (opposed .jump) (opposed .fall) r ⌝ }
 {
     let jump = to.jump;
     let fall = to.fall;
     let touched = e.touched;
     let jumping = opposed.jump;
     let falling = opposed.fall;
-    firsts_of(&jump, &fall, &touched, &denied, &jumping, &falling)
+    firsts_of(tests, &jump, &fall, &touched, &denied, &jumping, &falling)
 }
 
 // All that is found of a body: the sets, and for the conflict list each block's variable and the firsts of its edges.
-struct Found {
-    sets: Sets,
-    variable: [u8; 64],
-    jumped: Firsts,
-    fallen: Firsts,
+pub struct Found {
+    pub sets: Sets,
+    pub variable: [u8; 64],
+    pub jumped: Firsts,
+    pub fallen: Firsts,
 }
 
 fn listed_of(jumped: Firsts, fallen: Firsts) -> Edges
@@ -610,7 +538,8 @@ fn listed_of(jumped: Firsts, fallen: Firsts) -> Edges
     Edges { jump, fall }
 }
 
-fn find(body: form::Body) -> Found
+// All that is found of a body: the crate listing reads the conflict list off it.
+pub fn find(body: form::Body) -> Found
     requires { ⌜ Sound body ⌝ }
     ensures { λ r. ⌜ FoundOf body r ⌝ }
 {
@@ -624,8 +553,8 @@ fn find(body: form::Body) -> Found
     let falling = o.falling;
     let deny_jump = e.jump;
     let deny_fall = e.fall;
-    let jumped = firsts_by(targets, e, deny_jump, jumping);
-    let fallen = firsts_by(targets, e, deny_fall, falling);
+    let jumped = firsts_by(t.tests, targets, e, deny_jump, jumping);
+    let fallen = firsts_by(t.tests, targets, e, deny_fall, falling);
     let listed = listed_of(jumped, fallen);
     let touched = e.touched;
     let denied = Edges {
@@ -656,221 +585,4 @@ pub fn sets_of(body: form::Body) -> Sets
 {
     let f = find(body);
     f.sets
-}
-
-// ---- the list
-
-// An entry's five bytes into `out` at `at`, where there is one; the place after it.
-fn entry(
-    out: &mut [u8],
-    at: usize,
-    on: bool,
-    kind: u8,
-    first: usize,
-    third: u8,
-    second: usize,
-    outcome: u8,
-) -> usize
-    requires { ⌜ ((first < 256) × (second < 256)) × (at + length (entryBytes on kind first third second outcome) ≤ length (now out)) ⌝ }
-    ensures { λ r. ⌜ (r ≡ at + length (entryBytes on kind first third second outcome)) × (now (out .exit) ≡ sets (now (out .entry)) at (entryBytes on kind first third second outcome)) ⌝ }
-{
-    if !on {
-        return at;
-    }
-    out[at] = kind;
-    out[at + 1] = first as u8;
-    out[at + 2] = third;
-    out[at + 3] = second as u8;
-    out[at + 4] = outcome;
-    at + 5
-}
-
-// The entries of one kind of an edge, by the first block: those of a word, and beside each those of another.
-fn entries(
-    out: &mut [u8],
-    start: usize,
-    kind: u8,
-    word: u64,
-    third: u8,
-    other: u64,
-    another: u8,
-    second: usize,
-    outcome: u8,
-) -> usize
-    requires { ⌜ (second < 256) × (start + length (wordBytes kind word third other another second outcome) ≤ length (now out)) ⌝ }
-    ensures { λ r. ⌜ (r ≡ start + length (wordBytes kind word third other another second outcome)) × (now (out .exit) ≡ sets (now (out .entry)) start (wordBytes kind word third other another second outcome)) ⌝ }
-{
-    let mut at = start;
-    let mut f = 0;
-    while f < 64 {
-        let one = words::has(word, f);
-        let two = words::has(other, f);
-        let next = entry(out, at, one, kind, f, third, second, outcome);
-        at = entry(out, next, two, kind, f, another, second, outcome);
-        f += 1;
-    }
-    at
-}
-
-// The entries of an edge: its assignments, then its edges.
-fn edge_entries(
-    out: &mut [u8],
-    at: usize,
-    assigned: u64,
-    jump: u64,
-    fall: u64,
-    variable: u8,
-    second: usize,
-    outcome: u8,
-) -> usize
-    requires { ⌜ (second < 256) × (at + length (edgeBytes assigned jump fall variable second outcome) ≤ length (now out)) ⌝ }
-    ensures { λ r. ⌜ (r ≡ at + length (edgeBytes assigned jump fall variable second outcome)) × (now (out .exit) ≡ sets (now (out .entry)) at (edgeBytes assigned jump fall variable second outcome)) ⌝ }
-{
-    let next = entries(out, at, 1, assigned, variable, 0, 0, second, outcome);
-    entries(out, next, 2, jump, 1, fall, 2, second, outcome)
-}
-
-fn ones(x: u64) -> usize
-    ensures { λ r. ⌜ (r ≡ ones x) × (r ≤ 64) ⌝ }
-{
-    u64::count_ones(x) as usize
-}
-
-// How many bits three rows of words have.
-fn number_of(a: &[u64], j: &[u64], f: &[u64]) -> usize
-    requires { ⌜ (length (now a) ≡ 64) × ((length (now j) ≡ 64) × (length (now f) ≡ 64)) ⌝ }
-    ensures { λ r. ⌜ (r ≡ bitsOf (now (a .entry)) (now (j .entry)) (now (f .entry))) × (r ≤ 12288) ⌝ }
-{
-    let mut n = 0;
-    let mut s = 0;
-    while s < 64 {
-        n += ones(a[s]) + (ones(j[s]) + ones(f[s]));
-        s += 1;
-    }
-    n
-}
-
-// The whole list, block by block.
-fn all_entries(
-    out: &mut [u8],
-    variable: &[u8],
-    a1: &[u64],
-    j1: &[u64],
-    f1: &[u64],
-    a2: &[u64],
-    j2: &[u64],
-    f2: &[u64],
-) -> usize
-    requires { ⌜ Rows (now variable) (now a1) (now j1) (now f1) (now a2) (now j2) (now f2) × (0 + length (allBytes (now variable) (now a1) (now j1) (now f1) (now a2) (now j2) (now f2)) ≤ length (now out)) ⌝ }
-    ensures { λ r. ⌜ (r ≡ 0 + length (allBytes (now (variable .entry)) (now (a1 .entry)) (now (j1 .entry)) (now (f1 .entry)) (now (a2 .entry)) (now (j2 .entry)) (now (f2 .entry)))) × (now (out .exit) ≡ sets (now (out .entry)) 0 (allBytes (now (variable .entry)) (now (a1 .entry)) (now (j1 .entry)) (now (f1 .entry)) (now (a2 .entry)) (now (j2 .entry)) (now (f2 .entry)))) ⌝ }
-{
-    let mut at = 0;
-    let mut s = 0;
-    while s < 64 {
-        let v = variable[s];
-        let next = edge_entries(out, at, a1[s], j1[s], f1[s], v, s, 1);
-        at = edge_entries(out, next, a2[s], j2[s], f2[s], v, s, 2);
-        s += 1;
-    }
-    at
-}
-
-fn firsts_number(p: Firsts) -> usize
-    requires { ⌜ (length (p .assigned) ≡ 64) × ((length (p .jump) ≡ 64) × (length (p .fall) ≡ 64)) ⌝ }
-    ensures { λ r. ⌜ (r ≡ bitsOf (p .assigned) (p .jump) (p .fall)) × (r ≤ 12288) ⌝ }
-{
-    let a = p.assigned;
-    let j = p.jump;
-    let f = p.fall;
-    number_of(&a, &j, &f)
-}
-
-fn found_number(f: Found) -> usize
-    requires { ⌜ Rows (f .variable) (f .jumped .assigned) (f .jumped .jump) (f .jumped .fall) (f .fallen .assigned) (f .fallen .jump) (f .fallen .fall) ⌝ }
-    ensures { λ r. ⌜ (r ≡ bitsOf (f .jumped .assigned) (f .jumped .jump) (f .jumped .fall) + bitsOf (f .fallen .assigned) (f .fallen .jump) (f .fallen .fall)) × (r ≤ 24576) ⌝ }
-{
-    let p = f.jumped;
-    let q = f.fallen;
-    firsts_number(p) + firsts_number(q)
-}
-
-fn found_entries(out: &mut [u8], f: Found) -> usize
-    requires { ⌜ Rows (f .variable) (f .jumped .assigned) (f .jumped .jump) (f .jumped .fall) (f .fallen .assigned) (f .fallen .jump) (f .fallen .fall) × (0 + length (allBytes (f .variable) (f .jumped .assigned) (f .jumped .jump) (f .jumped .fall) (f .fallen .assigned) (f .fallen .jump) (f .fallen .fall)) ≤ length (now out)) ⌝ }
-    ensures { λ r. ⌜ (r ≡ 0 + length (allBytes (f .variable) (f .jumped .assigned) (f .jumped .jump) (f .jumped .fall) (f .fallen .assigned) (f .fallen .jump) (f .fallen .fall))) × (now (out .exit) ≡ sets (now (out .entry)) 0 (allBytes (f .variable) (f .jumped .assigned) (f .jumped .jump) (f .jumped .fall) (f .fallen .assigned) (f .fallen .jump) (f .fallen .fall))) ⌝ }
-{
-    let variable = f.variable;
-    let p = f.jumped;
-    let q = f.fallen;
-    let a1 = p.assigned;
-    let j1 = p.jump;
-    let f1 = p.fall;
-    let a2 = q.assigned;
-    let j2 = q.jump;
-    let f2 = q.fall;
-    all_entries(out, &variable, &a1, &j1, &f1, &a2, &j2, &f2)
-}
-
-// How many entries the conflict list of a body has.
-pub fn entries_of(body: form::Body) -> usize
-    requires { ⌜ Sound body ⌝ }
-    ensures { λ r. ⌜ (r ≡ length (conflicts body)) × (r ≤ 24576) ⌝ }
-{
-    let f = find(body);
-    found_number(f)
-}
-
-fn list_of(body: form::Body, out: &mut [u8]) -> Listed
-    requires { ⌜ Sound body ⌝ }
-    ensures { λ r. ⌜ (r ≡ listedIn body (length (now (out .entry)))) × (now (out .exit) ≡ heldAfter r (conflictBytes body) (now (out .entry))) ⌝ }
-{
-    let f = find(body);
-    let bytes = 5 * found_number(f);
-    if out.len() < bytes {
-        return Listed::Unlisted {
-            number: 42,
-            place: bytes,
-        };
-    }
-    let end = found_entries(out, f);
-    Listed::Bytes(end)
-}
-
-// The conflict list, for any bytes: 10 to 19, then 42 with the bytes needed, else the list's bytes into `out`.
-pub fn conflicts(form: &[u8], out: &mut [u8]) -> Listed
-    ensures { λ r. ⌜ (r ≡ listing (now (form .entry)) (length (now (out .entry)))) × (now (out .exit) ≡ heldAfter r (conflictBytes (bodyOf (now (form .entry)))) (now (out .entry))) ⌝ }
-{
-    let reading = form::read(form);
-    let verdict = reading.verdict;
-    match verdict {
-        form::Verdict::Refused { number, place } => Listed::Unlisted { number, place },
-        form::Verdict::Accepted => {
-            let body = reading.body;
-            list_of(body, out)
-        }
-    }
-}
-
-fn answer_of(r: Listed) -> ListAnswer
-    ensures { λ a. ⌜ a ≡ exported r ⌝ }
-{
-    match r {
-        Listed::Bytes(count) => ListAnswer {
-            number: 0,
-            place: 0,
-            bytes: count as u64,
-        },
-        Listed::Unlisted { number, place } => ListAnswer {
-            number: number as u64,
-            place: place as u64,
-            bytes: 0,
-        },
-    }
-}
-
-// The conflict list, asked from C.
-#[no_mangle]
-pub extern "C" fn conflict_list(form: &[u8], out: &mut [u8]) -> ListAnswer
-    ensures { λ r. ⌜ (r ≡ exported (listing (now (form .entry)) (length (now (out .entry))))) × (now (out .exit) ≡ heldAfter (listing (now (form .entry)) (length (now (out .entry)))) (conflictBytes (bodyOf (now (form .entry)))) (now (out .entry))) ⌝ }
-{
-    answer_of(conflicts(form, out))
 }

@@ -13,8 +13,8 @@ use Rattle.routes.specs.SweepAnswer as Sweep
 use Rattle.routes.specs.declared.sweep.SweepAnswer.{SweepAnswer}
 use Rattle.desk.specs.declared.CountAnswer.{CountAnswer}
 use Rattle.desk.specs.declared.FormAnswer.{FormAnswer}
-use Rattle.conflict.specs.declared.Listed.{Listed}
-use Rattle.conflict.specs.Answer as Conflict
+use Rattle.listing.specs.declared.Listed.{Listed}
+use Rattle.listing.specs.Answer as Conflict
 use Rattle.desk.specs.declared.ListNumbers.{ListNumbers}
 use Rattle.desk.specs.declared.SweepNumbers.{SweepNumbers}
 use Rattle.desk.specs.declared.WalkNumbers.{WalkNumbers}
@@ -42,6 +42,10 @@ rewriteHeld form out = when (accepted (judge form)) (heldAfter (written (bodyOf 
 abbrev pub countValues : CountAnswer → Counter.Values
 countValues answer = record { number = answer .number; place = answer .place; iterations = answer .iterations }
 
+abbrev pub walkNumbers : (number place iterations weight bound walked : ℕ) → WalkNumbers
+walkNumbers number place iterations weight bound walked =
+    record { number = number; place = place; iterations = iterations; weight = weight; bound = bound; walked = walked }
+
 -- The full walk's, as its own definition has it
 abbrev pub walkValues : WalkNumbers → Walk.Values
 walkValues answer =
@@ -57,6 +61,10 @@ walkValues answer =
 -- The conflict list's; an entry has 5 bytes
 abbrev pub listNumbers : Listed → ListNumbers
 listNumbers r = record { number = Conflict.numberOf r; place = Conflict.placeOf r; entries = Conflict.bytesOf r / 5 }
+
+abbrev pub sweepNumbers : (number place iterations weight bound kept : ℕ) → SweepNumbers
+sweepNumbers number place iterations weight bound kept =
+    record { number = number; place = place; iterations = iterations; weight = weight; bound = bound; kept = kept }
 
 -- The sweep's
 abbrev pub sweepSaid : SweepAnswer → Sweep.Values

@@ -1,15 +1,25 @@
--- The promises of the exported calls leave one answer and one content of the lent bytes. Rests on Answer and on the counter's Uniqueness.
+-- The promises of the exported calls leave one answer and one content of the lent memory. Rests on Answer, the counter's Uniqueness and the walks' `owed-once`.
 use mathlib.Core.List.{List}
 use mathlib.Core.Path.{_≡_, sym, _∙_}
 use Prim.Native.Nat.{ℕ}
 use lib.IntN.{ℤ}
-use lib.ListN.{length}
+use lib.ListN.{length, replicate}
 use Rattle.counter.specs.Answer.{Owed}
 use Rattle.counter.specs.Uniqueness.{owed-once}
-use Rattle.form.specs.Form.{judge}
+use Rattle.form.specs.Form.{judge, bodyOf}
+use Rattle.form.specs.Conflict.{conflictBytes}
+use Rattle.laws.specs.Terms.{digit}
+use Rattle.pair.specs.Pair.{conflicting}
+use Rattle.listing.specs.Answer as Conflict
+use Rattle.routes.specs.Accepted as Routes
+use Rattle.routes.specs.WalkAnswer as Walk
+use Rattle.routes.specs.SweepAnswer as Sweep
 use Rattle.desk.specs.declared.CountAnswer.{CountAnswer}
 use Rattle.desk.specs.declared.FormAnswer.{FormAnswer}
-use Rattle.desk.specs.Answer.{verdictAnswer, rewriteAnswer, rewriteHeld, countValues}
+use Rattle.desk.specs.declared.ListNumbers.{ListNumbers}
+use Rattle.desk.specs.declared.SweepNumbers.{SweepNumbers}
+use Rattle.desk.specs.declared.WalkNumbers.{WalkNumbers}
+use Rattle.desk.specs.Answer.{verdictAnswer, rewriteAnswer, rewriteHeld, countValues, listNumbers, walkValues, sweepOutcome, OwnSweepOwed}
 
 pub one-count :
     (initial step : ℤ) (relation : ℕ) (limit : ℤ) (a b : CountAnswer) → Owed initial step relation limit (countValues a)
@@ -25,3 +35,55 @@ pub one-rewrite :
     (form out held held′ : List ℕ) (a b : FormAnswer) → (a ≡ rewriteAnswer form (length out)) × (held ≡ rewriteHeld form out)
     → (b ≡ rewriteAnswer form (length out)) × (held′ ≡ rewriteHeld form out) → (a ≡ b) × (held ≡ held′)
 one-rewrite form out held held′ a b (p, q) (r, s) = (p ∙ sym r, q ∙ sym s)
+
+pub one-pair :
+    (relation1 : ℕ) (constant1 : ℤ) (relation2 : ℕ) (constant2 : ℤ) (a b : ℕ) → a ≡ digit (conflicting relation1 constant1 relation2 constant2)
+    → b ≡ digit (conflicting relation1 constant1 relation2 constant2) → a ≡ b
+one-pair relation1 constant1 relation2 constant2 a b p q = p ∙ sym q
+
+pub one-list :
+    (form out held held′ : List ℕ) (a b : ListNumbers)
+    → (a ≡ listNumbers (Conflict.listing form (length out))) × (held ≡ Conflict.heldAfter (Conflict.listing form (length out)) (conflictBytes (bodyOf form)) out)
+    → (b ≡ listNumbers (Conflict.listing form (length out))) × (held′ ≡ Conflict.heldAfter (Conflict.listing form (length out)) (conflictBytes (bodyOf form)) out)
+    → (a ≡ b) × (held ≡ held′)
+one-list form out held held′ a b (p, q) (r, s) = (p ∙ sym r, q ∙ sym s)
+
+pub one-walk :
+    (form : List ℕ) (budget : ℕ) (route held held′ : List ℕ) (a b : WalkNumbers) → Walk.WalkOwed form budget route (walkValues a, held)
+    → Walk.WalkOwed form budget route (walkValues b, held′) → (a ≡ b) × (held ≡ held′)
+one-walk form budget route held held′ a b o p =
+    let e = Routes.owed-once form (Walk.refused route) (Walk.walkOutcome (bodyOf form) budget route) (walkValues a, held) (walkValues b, held′) o p in (
+      (λ i.
+          record {
+            number = e i .0 .number;
+            place = e i .0 .place;
+            iterations = e i .0 .iterations;
+            weight = e i .0 .weight;
+            bound = e i .0 .bound;
+            walked = e i .0 .walked;
+          }),
+      (λ i. e i .1),
+    )
+
+pub one-sweep-table :
+    (form route table held held′ rows rows′ : List ℕ) (a b : SweepNumbers) → Sweep.SweepOwed form route table (sweepOutcome a held rows)
+    → Sweep.SweepOwed form route table (sweepOutcome b held′ rows′) → (a ≡ b) × ((held ≡ held′) × (rows ≡ rows′))
+one-sweep-table form route table held held′ rows rows′ a b o p =
+    let e = Routes.owed-once form (Sweep.refused route table) (Sweep.sweepOutcome (bodyOf form) route table) (sweepOutcome a held rows) (sweepOutcome b held′ rows′) o p in (
+      (λ i.
+          record {
+            number = e i .values .number;
+            place = e i .values .place;
+            iterations = e i .values .iterations;
+            weight = e i .values .weight;
+            bound = e i .values .bound;
+            kept = e i .values .kept;
+          }),
+      ((λ i. e i .route), (λ i. e i .table)),
+    )
+
+pub one-sweep :
+    (form route held held′ : List ℕ) (a b : SweepNumbers) → OwnSweepOwed form route a held → OwnSweepOwed form route b held′ → (a ≡ b) × (held ≡ held′)
+one-sweep form route held held′ a b (rows, o) (rows′, p) =
+    let same = one-sweep-table form route (replicate 7680 0) held held′ rows rows′ a b o p in
+    (same .0, same .1 .0)

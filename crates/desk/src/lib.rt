@@ -5,16 +5,16 @@ ghost use lib.ListN.{length};
 ghost use Rattle.laws.specs.Terms.{digit};
 ghost use Rattle.form.specs.Form.{judge, bodyOf};
 ghost use Rattle.form.specs.Conflict.{conflictBytes};
-ghost use Rattle.conflict.specs.Pair.{conflicting};
-ghost use Rattle.conflict.specs.Answer.{listing, heldAfter};
+ghost use Rattle.pair.specs.Pair.{conflicting};
+ghost use Rattle.listing.specs.Answer.{listing, heldAfter};
 ghost use Rattle.counter.specs.Answer.{Owed};
 ghost use Rattle.routes.specs.WalkAnswer.{said, WalkOwed};
 ghost use Rattle.routes.specs.SweepAnswer.{SweepOwed};
-ghost use Rattle.desk.specs.Answer.{countValues, walkValues, sweepValues, sweepSaid, sweepOutcome, OwnSweepOwed, listNumbers, formAnswer, verdictAnswer, writtenAnswer, rewriteAnswer, rewriteHeld};
-use conflict::Listed;
+ghost use Rattle.desk.specs.Answer.{countValues, walkNumbers, walkValues, sweepNumbers, sweepValues, sweepSaid, sweepOutcome, OwnSweepOwed, listNumbers, formAnswer, verdictAnswer, writtenAnswer, rewriteAnswer, rewriteHeld};
 use counter::Counted;
 use form::Verdict;
 use form::Written;
+use listing::Listed;
 use routes::sweep::SweepAnswer;
 use routes::walk::WalkAnswer;
 
@@ -125,7 +125,7 @@ pub extern "C" fn somniaret_rewrite(bytes: &[u8], out: &mut [u8]) -> FormAnswer
         return of_verdict(verdict);
     }
     let body = reading.body;
-    of_written(form::write(body, out))
+    of_written(writer::write(body, out))
 }
 
 // Whether two conditions on one variable conflict: 1, or 0 where some whole number meets both.
@@ -133,7 +133,11 @@ pub extern "C" fn somniaret_rewrite(bytes: &[u8], out: &mut [u8]) -> FormAnswer
 pub extern "C" fn somniaret_pair(relation1: u8, constant1: i32, relation2: u8, constant2: i32) -> u8
     ensures { λ r. ⌜ r ≡ digit (conflicting relation1 constant1 relation2 constant2) ⌝ }
 {
-    conflict::conflict_pair(relation1, constant1, relation2, constant2)
+    if pair::conflicting(relation1, constant1, relation2, constant2) {
+        1
+    } else {
+        0
+    }
 }
 
 fn of_listed(listed: Listed) -> ListNumbers
@@ -158,7 +162,27 @@ fn of_listed(listed: Listed) -> ListNumbers
 pub extern "C" fn somniaret_conflicts(bytes: &[u8], out: &mut [u8]) -> ListNumbers
     ensures { λ r. ⌜ (r ≡ listNumbers (listing (now (bytes .entry)) (length (now (out .entry))))) × (now (out .exit) ≡ heldAfter (listing (now (bytes .entry)) (length (now (out .entry)))) (conflictBytes (bodyOf (now (bytes .entry)))) (now (out .entry))) ⌝ }
 {
-    of_listed(conflict::conflicts(bytes, out))
+    of_listed(listing::conflicts(bytes, out))
+}
+
+fn walk_numbers(
+    number: u64,
+    place: u64,
+    iterations: u64,
+    weight: u64,
+    bound: u64,
+    walked: u64,
+) -> WalkNumbers
+    ensures { λ r. ⌜ r ≡ walkNumbers number place iterations weight bound walked ⌝ }
+{
+    WalkNumbers {
+        number,
+        place,
+        iterations,
+        weight,
+        bound,
+        walked,
+    }
 }
 
 fn of_walk(walk: WalkAnswer) -> WalkNumbers
@@ -170,22 +194,10 @@ fn of_walk(walk: WalkAnswer) -> WalkNumbers
             weight,
             bound,
             walked,
-        } => WalkNumbers {
-            number: 0,
-            place: 0,
-            iterations,
-            weight,
-            bound,
-            walked,
-        },
-        WalkAnswer::Refused { number, place } => WalkNumbers {
-            number: number as u64,
-            place: place as u64,
-            iterations: 0,
-            weight: 0,
-            bound: 0,
-            walked: 0,
-        },
+        } => walk_numbers(0, 0, iterations, weight, bound, walked),
+        WalkAnswer::Refused { number, place } => {
+            walk_numbers(number as u64, place as u64, 0, 0, 0, 0)
+        }
     }
 }
 
@@ -197,6 +209,26 @@ pub extern "C" fn somniaret_walk(bytes: &[u8], budget: u32, route: &mut [u8]) ->
     of_walk(routes::walk::walk(bytes, budget, route))
 }
 
+fn sweep_numbers(
+    number: u64,
+    place: u64,
+    iterations: u64,
+    weight: u64,
+    bound: u64,
+    kept: u64,
+) -> SweepNumbers
+    ensures { λ r. ⌜ r ≡ sweepNumbers number place iterations weight bound kept ⌝ }
+{
+    SweepNumbers {
+        number,
+        place,
+        iterations,
+        weight,
+        bound,
+        kept,
+    }
+}
+
 fn of_sweep(sweep: SweepAnswer) -> SweepNumbers
     ensures { λ r. ⌜ sweepValues r ≡ sweepSaid sweep ⌝ }
 {
@@ -206,22 +238,10 @@ fn of_sweep(sweep: SweepAnswer) -> SweepNumbers
             weight,
             bound,
             kept,
-        } => SweepNumbers {
-            number: 0,
-            place: 0,
-            iterations,
-            weight,
-            bound,
-            kept,
-        },
-        SweepAnswer::Refused { number, place } => SweepNumbers {
-            number: number as u64,
-            place: place as u64,
-            iterations: 0,
-            weight: 0,
-            bound: 0,
-            kept: 0,
-        },
+        } => sweep_numbers(0, 0, iterations, weight, bound, kept),
+        SweepAnswer::Refused { number, place } => {
+            sweep_numbers(number as u64, place as u64, 0, 0, 0, 0)
+        }
     }
 }
 

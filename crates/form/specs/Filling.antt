@@ -14,6 +14,12 @@ use Rattle.form.specs.Records.{next, records-step, records-end}
 abbrev pub placed : {A : Type 0} → ℕ → List A → ℕ → A → List A
 placed n list i x = when (ltb i n) (set list i x) list
 
+pub placed-in : {A : Type 0} {n i : ℕ} (list : List A) (x : A) {longer : List A} → i < n → longer ≡ set list i x → longer ≡ placed n list i x
+placed-in list x h e = rw (lt-ltb _ _ h) e
+
+pub placed-past : {A : Type 0} {n i : ℕ} (list : List A) (x : A) {longer : List A} → n ≤ i → longer ≡ list → longer ≡ placed n list i x
+placed-past list x h e = rw (le-ltb _ _ h) e
+
 module _ {A : Type 0} (z : A) where
   set-fill : (n : ℕ) (done : List A) (x : A) → length done < n → set (fill z n done) (length done) x ≡ fill z n (done ++ (x ∷ []))
   unfolding fill

@@ -1,5 +1,5 @@
 -- Laws of the writer's counts and of laying out. Rests on Form.
-use mathlib.Core.Bool.{Bool, true, false, _&&_, false≢true}
+use mathlib.Core.Bool.{Bool, true, false, _&&_, and-false, false≢true}
 use mathlib.Core.List.{List, [], _∷_, _++_, append-assoc, append-nil}
 use mathlib.Core.Path.{_≡_, refl, ap, sym, _∙_}
 use Prim.Native.Nat.{ℕ, zero, suc, _+_, _*_, _≤_, _<_}
@@ -18,10 +18,6 @@ use Rattle.form.specs.Form.{zeroBlock, zeroEffect, blockBytes, effectByt
 
 abbrev pub blocksCounted : Body → List Block
 blocksCounted body = take (body .count) (body .blocks)
-
-and-false : (a : Bool) → (a && false) ≡ false
-and-false true = refl
-and-false false = refl
 
 pub over-blocks : (body : Body) → 64 < body .count → false ≡ countsFit body
 unfolding countsFit

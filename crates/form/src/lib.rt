@@ -1,17 +1,12 @@
-// The order form of document 01: the structs of a body, by value; the reader and the writer. Every call answers for all bytes and all
-// bodies. The meaning of each is in specs/Form.antt; the mathematics that proofs share is in specs/ and in the crate laws.
+// The order form of document 01: the structs of a body, by value, and the reader. Every call answers for all bytes. The meaning of each is in
+// specs/Form.antt; the mathematics that proofs share is in specs/ and in the crate laws. The writer is the crate writer.
 ghost use mathlib.Core.Path.{_≡_};
-ghost use mathlib.Core.Bool.{_&&_, _||_, not};
-ghost use mathlib.Core.Bool.{true};
-ghost use mathlib.Core.List.{_++_};
-ghost use Prim.Native.Nat.{ℕ, _+_, _-_, _*_, _/_, _%_, _<_, _≤_, _^_};
-ghost use lib.Dec.{ltb, leb, eqb};
-ghost use lib.ListN.{length, take, drop};
-ghost use lib.Seq.{paste};
+ghost use Prim.Native.Nat.{_+_, _<_, _≤_, _^_};
+ghost use lib.ListN.{length};
 ghost use mir.Syntax.{w32};
-ghost use mir.Val.{toZ, ofZ};
-ghost use Rattle.form.specs.Form.{when, oneIf, byteAt, number2, number4, signed4, recordLength, recordsFrom, stray, someTarget, badCounter, badWays, badBlock, badEffect, badField, badTarget, outOfPlace, overLimit, payloadFault, recordFault, endFault, judgeEnds, judge, counterAt, blockAt, effectAt, ownEffects, blocksIn, effectsIn, fill, zeroBlock, zeroEffect, bodyOf, zeroBody, bytes4, counterBytes, blockBytes, effectBytes, layEffects, lay, countsFit};
-ghost use Rattle.form.specs.Answer.{accepted, reading, asJudged, written, heldAfter};
+ghost use mir.Val.{toZ};
+ghost use Rattle.form.specs.Form.{when, oneIf, byteAt, number2, number4, signed4, recordLength, recordsFrom, stray, someTarget, badWays, badBlock, badEffect, badField, badTarget, outOfPlace, overLimit, payloadFault, recordFault, endFault, judgeEnds, judge, counterAt, blockAt, effectAt, ownEffects, blocksIn, effectsIn, fill, zeroBlock, zeroEffect, bodyOf, zeroBody};
+ghost use Rattle.form.specs.Answer.{accepted, reading};
 ghost use Rattle.form.specs.Filling.{placed};
 
 // The counter: what a kind 1 record holds.
@@ -324,17 +319,6 @@ fn signed_of(bits: u32) -> i32
     -1 - below
 }
 
-// The 32 bits of a signed number.
-fn bits_of(z: i32) -> u32
-    ensures { λ r. ⌜ r ≡ ofZ w32 z ⌝ }
-{
-    if 0 <= z {
-        return z as u32;
-    }
-    let below = (-1 - z) as u32;
-    4294967295 - below
-}
-
 // The four bytes from i on as a signed number.
 fn signed_at(s: &[u8], i: usize) -> i32
     requires { ⌜ i + 8 < 2 ^ 64 ⌝ }
@@ -424,27 +408,6 @@ fn zero_effect() -> Effect
     }
 }
 
-// The list with x at its next place, if it has one.
-fn with_block(list: [Block; 64], count: usize, x: Block) -> [Block; 64]
-    ensures { λ r. ⌜ r ≡ placed 64 list count x ⌝ }
-{
-    let mut r = list;
-    if count < 64 {
-        r[count] = x;
-    }
-    r
-}
-
-fn with_effect(list: [Effect; 256], count: usize, x: Effect) -> [Effect; 256]
-    ensures { λ r. ⌜ r ≡ placed 256 list count x ⌝ }
-{
-    let mut r = list;
-    if count < 256 {
-        r[count] = x;
-    }
-    r
-}
-
 fn blocks_of(s: &[u8]) -> Blocks
     ensures { λ r. ⌜ (r .count ≡ length (blocksIn (now (s .entry)) (recordsFrom (now (s .entry)) 0))) × (r .list ≡ fill zeroBlock 64 (blocksIn (now (s .entry)) (recordsFrom (now (s .entry)) 0))) ⌝ }
 {
@@ -456,8 +419,9 @@ fn blocks_of(s: &[u8]) -> Blocks
         let next = at + record_length(kind) as usize;
         if kind == 2 {
             let block = block_at(s, at, own_effects(s, next));
-            let longer = with_block(list, count, block);
-            list = longer;
+            if count < 64 {
+                list[count] = block;
+            }
             count += 1;
         }
         at = next;
@@ -476,8 +440,9 @@ fn effects_of(s: &[u8]) -> Effects
         let next = at + record_length(kind) as usize;
         if kind == 3 {
             let effect = effect_at(s, at);
-            let longer = with_effect(list, count, effect);
-            list = longer;
+            if count < 256 {
+                list[count] = effect;
+            }
             count += 1;
         }
         at = next;
@@ -547,198 +512,4 @@ pub fn read(s: &[u8]) -> Reading
     }
     let body = zero_body();
     Reading { verdict, body }
-}
-
-// Bytes copied into `out` from `at` on; the place after them.
-fn copy_in(out: &mut [u8], at: usize, bytes: &[u8]) -> usize
-    requires { ⌜ at + length (now bytes) ≤ length (now out) ⌝ }
-    ensures { λ r. ⌜ (r ≡ at + length (now (bytes .entry))) × (now (out .exit) ≡ paste (now (out .entry)) at (now (bytes .entry)) (length (now (bytes .entry)))) ⌝ }
-{
-    let mut j = 0;
-    while j < bytes.len() {
-        out[at + j] = bytes[j];
-        j += 1;
-    }
-    at + j
-}
-
-fn counter_bytes(c: Counter) -> [u8; 17]
-    ensures { λ r. ⌜ r ≡ counterBytes c ⌝ }
-{
-    let i = bits_of(c.initial);
-    let s = bits_of(c.step);
-    let l = bits_of(c.limit);
-    [
-        17,
-        0,
-        1,
-        0,
-        (i % 256) as u8,
-        (i / 256 % 256) as u8,
-        (i / 65536 % 256) as u8,
-        (i / 16777216 % 256) as u8,
-        (s % 256) as u8,
-        (s / 256 % 256) as u8,
-        (s / 65536 % 256) as u8,
-        (s / 16777216 % 256) as u8,
-        c.relation,
-        (l % 256) as u8,
-        (l / 256 % 256) as u8,
-        (l / 65536 % 256) as u8,
-        (l / 16777216 % 256) as u8,
-    ]
-}
-
-fn block_bytes(k: Block) -> [u8; 17]
-    ensures { λ r. ⌜ r ≡ blockBytes k ⌝ }
-{
-    let cost = k.cost;
-    let c = bits_of(k.constant);
-    [
-        17,
-        0,
-        2,
-        0,
-        (cost % 256) as u8,
-        (cost / 256 % 256) as u8,
-        (cost / 65536 % 256) as u8,
-        (cost / 16777216 % 256) as u8,
-        k.ending,
-        k.jump,
-        k.fall,
-        k.variable,
-        k.relation,
-        (c % 256) as u8,
-        (c / 256 % 256) as u8,
-        (c / 65536 % 256) as u8,
-        (c / 16777216 % 256) as u8,
-    ]
-}
-
-fn effect_bytes(e: Effect) -> [u8; 10]
-    ensures { λ r. ⌜ r ≡ effectBytes e ⌝ }
-{
-    let c = bits_of(e.constant);
-    [
-        10,
-        0,
-        3,
-        0,
-        e.variable,
-        e.how,
-        (c % 256) as u8,
-        (c / 256 % 256) as u8,
-        (c / 65536 % 256) as u8,
-        (c / 16777216 % 256) as u8,
-    ]
-}
-
-// The n effects from `from` on, laid out in `buf` from `at` on; the place after them.
-fn lay_effects(buf: &mut [u8], at: usize, effects: [Effect; 256], from: usize, n: usize) -> usize
-    requires { ⌜ (from + n ≤ 256) × (at + 10 * n ≤ length (now buf)) ⌝ }
-    ensures { λ r. ⌜ (r ≡ at + 10 * n) × (take r (now (buf .exit)) ≡ take at (now (buf .entry)) ++ layEffects (take n (drop from effects))) ⌝ }
-{
-    let mut to = at;
-    let mut j = 0;
-    while j < n {
-        let bytes = effect_bytes(effects[from + j]);
-        to = copy_in(buf, to, &bytes);
-        j += 1;
-    }
-    to
-}
-
-// Whether a body's counts are within the limits and its blocks' own effects add up.
-fn counts_fit(body: Body) -> bool
-    ensures { λ r. ⌜ r ≡ countsFit body ⌝ }
-{
-    let count = body.count;
-    let total = body.total;
-    if 64 < count {
-        return false;
-    }
-    if 256 < total {
-        return false;
-    }
-    let blocks = body.blocks;
-    let mut left = total;
-    let mut k = 0;
-    while k < count {
-        let own = blocks[k].effects;
-        if left < own {
-            return false;
-        }
-        left -= own;
-        k += 1;
-    }
-    left == 0
-}
-
-// A block and its own effects, those from `e` on, laid out in `buf` from `at` on; the place after them.
-fn lay_block(buf: &mut [u8], at: usize, block: Block, effects: [Effect; 256], e: usize) -> usize
-    requires { ⌜ (e + block .effects ≤ 256) × (at + (17 + 10 * block .effects) ≤ length (now buf)) ⌝ }
-    ensures { λ r. ⌜ (r ≡ at + (17 + 10 * block .effects)) × (take r (now (buf .exit)) ≡ take at (now (buf .entry)) ++ (blockBytes block ++ layEffects (take (block .effects) (drop e effects)))) ⌝ }
-{
-    let bytes = block_bytes(block);
-    let after = copy_in(buf, at, &bytes);
-    let own = block.effects;
-    lay_effects(buf, after, effects, e, own)
-}
-
-// A body laid out from the buffer's start on; how many bytes that takes.
-fn lay(buf: &mut [u8], body: Body) -> usize
-    requires { ⌜ (countsFit body ≡ true) × (3665 ≤ length (now buf)) ⌝ }
-    ensures { λ r. ⌜ (r ≡ length (lay body)) × ((r ≤ 3665) × (take r (now (buf .exit)) ≡ lay body)) ⌝ }
-{
-    let count = body.count;
-    let blocks = body.blocks;
-    let effects = body.effects;
-    let counter = body.counter;
-    let first = counter_bytes(counter);
-    let mut at = copy_in(buf, 0, &first);
-    let mut k = 0;
-    let mut e = 0;
-    while k < count {
-        let block = blocks[k];
-        at = lay_block(buf, at, block, effects, e);
-        e += block.effects;
-        k += 1;
-    }
-    at
-}
-
-// The refusal that a verdict stands for, or the rest where it accepts.
-fn as_judged(verdict: Verdict, rest: Written) -> Written
-    ensures { λ r. ⌜ r ≡ asJudged verdict rest ⌝ }
-{
-    match verdict {
-        Verdict::Accepted => rest,
-        Verdict::Refused { number, place } => Written::Unwritten { number, place },
-    }
-}
-
-// The writer, for any body: its form in the lent bytes, or a refusal that changes none of them.
-pub fn write(body: Body, out: &mut [u8]) -> Written
-    ensures { λ r. ⌜ (r ≡ written body (length (now (out .entry)))) × (now (out .exit) ≡ heldAfter r (lay body) (now (out .entry))) ⌝ }
-{
-    if !counts_fit(body) {
-        return Written::Unwritten {
-            number: 14,
-            place: 0,
-        };
-    }
-    let mut buf = [0u8; 3665];
-    let n = lay(&mut buf, body);
-    let verdict = judge(&buf[..n]);
-    if !accepts(verdict) {
-        return as_judged(verdict, Written::Bytes(0));
-    }
-    if out.len() < n {
-        return Written::Unwritten {
-            number: 42,
-            place: n,
-        };
-    }
-    copy_in(out, 0, &buf[..n]);
-    Written::Bytes(n)
 }

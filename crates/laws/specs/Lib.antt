@@ -8,3 +8,5 @@ pub mod Rows
 pub mod Whole
 pub mod Signed
 pub mod Complement
+pub mod Sums
+pub mod Laid

@@ -1,25 +1,25 @@
 -- The conflict list by block and way: where a block's ways lead, clean paths block by block, the firsts of an edge, and the list as one list of pairs for each
--- edge of the 64 blocks (`conflicts-by-edge`); an edge that the list pairs with a first below a block (`listed-is`). Rests on ConflictList and PairTest.
+-- edge of the 64 blocks (`conflicts-by-edge`); an edge that the list pairs with a first below a block (`listed-jump`, `listed-fall`). Rests on ConflictList, Listed and PairTest.
 use mathlib.Core.Path.{_≡_, refl, sym, ap, ap₂, subst, _∙_}
-use mathlib.Core.Logic.{_↔_, _⊎_, inl, inr}
+use mathlib.Core.Logic.{_⊎_, inl, inr}
 use mathlib.Core.Bool.{Bool, true, false, not, cond, _||_, _&&_, and-false, or-false}
-use mathlib.Core.List.{List, [], _∷_, _++_, append-nil, append-assoc}
+use mathlib.Core.List.{List, [], _∷_, _++_, append-nil}
 use Prim.Native.Nat.{ℕ, zero, suc, _+_, _≤_, _<_}
 use native.Mathlib.Omega.{arith}
-use borrow.Author.Tests.{eqb-true, eq-eqb, ltb-true, ltb-false, lt-ltb, le-ltb}
+use borrow.Author.Tests.{eqb-true, ltb-true, ltb-false, le-ltb}
 use lib.Dec.{eqb, ltb}
-use lib.ListN.{length, getD, take, drop, length-take}
+use lib.ListN.{length, take, length-take}
 use Rattle.laws.specs.Terms.{Mem, each, anyOf, any, range}
-use Rattle.laws.specs.Tests.{clash, both, split, is-false, and-out, and-in, or-out, or-in-left, or-in-right, not-out, eqb-same, any-in, any-out}
-use Rattle.laws.specs.Lists.{mem-left, mem-right, mem-append, each-out, each-in, anyOf-out, anyOf-in, each-same, range-in}
+use Rattle.laws.specs.Tests.{clash, both, split, is-false, or-out, or-in-left, or-in-right, any-in, any-out}
+use Rattle.laws.specs.Lists.{mem-left, mem-right, mem-append, each-out, each-in, each-same, range-in}
 use Rattle.form.specs.declared.Body.{Body}
 use Rattle.form.specs.declared.Block.{Block}
 use Rattle.form.specs.Form.{when}
-use Rattle.form.specs.Conflict.{Edge, noBlock, block, effectsOf, touches, lastOn, refuses, exitsBy, exits, isTest, condition, contradict, opposes, denies, Onward, Clean, clean, leads, Pair, assigned, crossed, assignmentPair, edgePair, pairsOf, conflicts}
-use Rattle.form.specs.Conflict.Clean.{here, onward}
+use Rattle.form.specs.Conflict.{Edge, noBlock, block, effectsOf, touches, lastOn, exitsBy, exits, isTest, condition, contradict, opposes, denies, Onward, clean, leads, Pair, assigned, crossed, assignmentPair, edgePair, pairsOf, conflicts, secondOf, listed}
 use Rattle.relations.specs.PairTest.{contradict-swap}
 use Rattle.relations.specs.Blocks.{beyond}
 use Rattle.relations.specs.ConflictList.{clean-up, clean-says}
+use Rattle.relations.specs.Listed.{listed-out, listed-in, clean-step as clean-by-exits}
 
 -- ---- where the ways of a block lead; 64 stands for no such way
 
@@ -248,61 +248,43 @@ module _ (body : Body) where
         crossing : (p : Pair) → Mem p (firstCrossed e f) → Mem p (each (range 0 64) (firstAssigned e) ++ each (range 0 64) (firstCrossed e))
         crossing p m = mem-right _ (each (range 0 64) (firstAssigned e)) (each (range 0 64) (firstCrossed e)) (each-in (range 0 64) (firstCrossed e) f p here-in m)
 
-    abbrev pub pairsBelow : ℕ → Edge → Pair → Bool
-    pairsBelow b e p = (eqb (p .second) (e .0) && eqb (p .outcome) (e .1)) && ltb (p .first) b
-
     abbrev both-ways : ℕ → List Pair
     both-ways s = edgePairs (s, 1) ++ edgePairs (s, 2)
 
-    listed-out : (b : ℕ) (e : Edge) → anyOf (pairsBelow b e) (conflicts body) ≡ true → any b (λ f. paired f e) ≡ true
-    listed-out b e h =
-        let (p, m, k) = anyOf-out (pairsBelow b e) (conflicts body) h in
-        let (q, l) = and-out (eqb (p .second) (e .0) && eqb (p .outcome) (e .1)) _ k in
-        let (x, y) = and-out (eqb (p .second) (e .0)) _ q in
+    firsts-out : (b : ℕ) (e : Edge) → listed (conflicts body) b e ≡ true → any b (λ f. paired f e) ≡ true
+    firsts-out b e h =
+        let (p, m, q, l) = listed-out (conflicts body) b e h in
         let (s, i, n) = each-out (range 0 64) both-ways p (subst (Mem p) conflicts-by-edge m) in
-        any-in b (λ f. paired f e) (p .first) (ltb-true (p .first) b l) (found p s x y (mem-append p (edgePairs (s, 1)) (edgePairs (s, 2)) n))
+        any-in b (λ f. paired f e) (p .first) l (found p s q (mem-append p (edgePairs (s, 1)) (edgePairs (s, 2)) n))
       where
-        found : (p : Pair) (s : ℕ) → eqb (p .second) (e .0) ≡ true → eqb (p .outcome) (e .1) ≡ true → Mem p (edgePairs (s, 1)) ⊎ Mem p (edgePairs (s, 2)) → paired (p .first) e ≡ true
-        found p s x y (inl n) = let (a, o, t) = pair-of (s, 1) p n in
-            subst (λ (d : Edge). paired (p .first) d ≡ true) (λ i. ((sym a ∙ eqb-true (p .second) (e .0) x) i, (sym o ∙ eqb-true (p .outcome) (e .1) y) i)) t
-        found p s x y (inr n) = let (a, o, t) = pair-of (s, 2) p n in
-            subst (λ (d : Edge). paired (p .first) d ≡ true) (λ i. ((sym a ∙ eqb-true (p .second) (e .0) x) i, (sym o ∙ eqb-true (p .outcome) (e .1) y) i)) t
+        found : (p : Pair) (s : ℕ) → secondOf p ≡ e → Mem p (edgePairs (s, 1)) ⊎ Mem p (edgePairs (s, 2)) → paired (p .first) e ≡ true
+        found p s q (inl n) = let (a, o, t) = pair-of (s, 1) p n in subst (λ (d : Edge). paired (p .first) d ≡ true) ((λ i. (sym a i, sym o i)) ∙ q) t
+        found p s q (inr n) = let (a, o, t) = pair-of (s, 2) p n in subst (λ (d : Edge). paired (p .first) d ≡ true) ((λ i. (sym a i, sym o i)) ∙ q) t
 
-    listed-in : (b s way : ℕ) → b ≤ 64 → s < 64 → ((p : Pair) → Mem p (edgePairs (s, way)) → Mem p (both-ways s)) → any b (λ f. paired f (s, way)) ≡ true → anyOf (pairsBelow b (s, way)) (conflicts body) ≡ true
-    listed-in b s way few-b inside among h =
+    firsts-in : (b s way : ℕ) → b ≤ 64 → s < 64 → ((p : Pair) → Mem p (edgePairs (s, way)) → Mem p (both-ways s)) → any b (λ f. paired f (s, way)) ≡ true → listed (conflicts body) b (s, way) ≡ true
+    firsts-in b s way few-b inside among h =
         let (f, l, k) = any-out b (λ f. paired f (s, way)) h in
         let (p, m, x, y, z) = pair-in (s, way) f (omega arith) k in
-        anyOf-in (pairsBelow b (s, way)) (conflicts body) p
+        listed-in (conflicts body) b (s, way) p
         (subst (Mem p) (sym conflicts-by-edge) (each-in (range 0 64) both-ways s p (range-in 0 64 s (omega arith) inside) (among p m)))
-        (and-in (and-in (eq-eqb (p .second) s x) (eq-eqb (p .outcome) way y)) (lt-ltb (p .first) b (omega arith)))
+        (λ i. (x i, y i)) (omega arith)
 
     -- an edge is listed below b: by the list, and by its firsts
-    pub listed-jump : (b s : ℕ) → b ≤ 64 → s < 64 → any b (λ f. paired f (s, 1)) ≡ anyOf (pairsBelow b (s, 1)) (conflicts body)
-    listed-jump b s h l = both _ _ (listed-in b s 1 h l (λ p m. mem-left p (edgePairs (s, 1)) (edgePairs (s, 2)) m)) (listed-out b (s, 1))
+    pub listed-jump : (b s : ℕ) → b ≤ 64 → s < 64 → any b (λ f. paired f (s, 1)) ≡ listed (conflicts body) b (s, 1)
+    listed-jump b s h l = both _ _ (firsts-in b s 1 h l (λ p m. mem-left p (edgePairs (s, 1)) (edgePairs (s, 2)) m)) (firsts-out b (s, 1))
 
-    pub listed-fall : (b s : ℕ) → b ≤ 64 → s < 64 → any b (λ f. paired f (s, 2)) ≡ anyOf (pairsBelow b (s, 2)) (conflicts body)
-    listed-fall b s h l = both _ _ (listed-in b s 2 h l (λ p m. mem-right p (edgePairs (s, 1)) (edgePairs (s, 2)) m)) (listed-out b (s, 2))
+    pub listed-fall : (b s : ℕ) → b ≤ 64 → s < 64 → any b (λ f. paired f (s, 2)) ≡ listed (conflicts body) b (s, 2)
+    listed-fall b s h l = both _ _ (firsts-in b s 2 h l (λ p m. mem-right p (edgePairs (s, 1)) (edgePairs (s, 2)) m)) (firsts-out b (s, 2))
 
     -- an edge of no test is not listed
-    pub listed-none : (b : ℕ) (e : Edge) → isTest body (e .0) ≡ false → anyOf (pairsBelow b e) (conflicts body) ≡ false
-    listed-none b e t = is-false (anyOf (pairsBelow b e) (conflicts body)) (λ h. let (f, l, k) = any-out b (λ f. paired f e) (listed-out b e h) in clash k (paired-none f e t))
+    pub listed-none : (b : ℕ) (e : Edge) → isTest body (e .0) ≡ false → listed (conflicts body) b e ≡ false
+    listed-none b e t = is-false (listed (conflicts body) b e) (λ h. let (f, l, k) = any-out b (λ f. paired f e) (firsts-out b e h) in clash k (paired-none f e t))
 
 -- ---- clean paths, block by block
 
 module _ (body : Body) (w : Onward body) (v s : ℕ) (real : s < body .count) where
   abbrev pub leadsFrom : ℕ → Bool
   leadsFrom b = clean body v (body .count) b s
-
-  step-in : (b : ℕ) → Clean body v b s → (not (touches body b v) && (eqb b s || anyOf (λ o. leadsFrom (o .1)) (exits body b))) ≡ true
-  step-in b (here k) = and-in (ap not k) (or-in-left _ (eqb-same b))
-  step-in b (onward o k m c) = and-in (ap not k) (or-in-right (eqb b s) (anyOf-in (λ (o : ℕ × ℕ). leadsFrom (o .1)) (exits body b) o m ((clean-says body w v (o .1) s real) .1 c)))
-
-  step-out : (b : ℕ) → (not (touches body b v) && (eqb b s || anyOf (λ o. leadsFrom (o .1)) (exits body b))) ≡ true → Clean body v b s
-  step-out b h =
-      let (k, r) = and-out (not (touches body b v)) _ h in
-      or-out (eqb b s) _ r
-      (λ e. subst (Clean body v b) (eqb-true b s e) (here (not-out (touches body b v) k)))
-      (λ a. let (o, m, c) = anyOf-out (λ (o : ℕ × ℕ). leadsFrom (o .1)) (exits body b) a in onward o (not-out (touches body b v) k) m ((clean-says body w v (o .1) s real) .0 c))
 
   pub clean-top : (b : ℕ) → s < b → leadsFrom b ≡ false
   clean-top b h = is-false (leadsFrom b) (λ k. let u = clean-up body w v b s ((clean-says body w v b s real) .0 k) in no u)
@@ -319,6 +301,4 @@ module _ (body : Body) (w : Onward body) (v s : ℕ) (real : s < body .count) wh
     some-way b = some-exit leadsFrom none-at-64 (block body b)
 
     pub clean-step : (b : ℕ) → leadsFrom b ≡ (not (touches body b v) && (eqb b s || (leadsFrom (jumpOf (block body b)) || leadsFrom (fallOf (block body b)))))
-    clean-step b =
-        both _ _ (λ h. step-in b ((clean-says body w v b s real) .0 h)) (λ h. (clean-says body w v b s real) .1 (step-out b h))
-        ∙ ap (λ x. not (touches body b v) && (eqb b s || x)) (some-way b)
+    clean-step b = clean-by-exits body w v b s real ∙ ap (λ x. not (touches body b v) && (eqb b s || x)) (some-way b)

@@ -10,4 +10,3 @@ pub mod Effects
 pub mod ConflictList
 pub mod Listed
 pub mod Joined
-pub mod Accepted

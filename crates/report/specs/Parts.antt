@@ -12,10 +12,10 @@ use Rattle.form.specs.declared.Verdict.the-variants.{Accepted}
 use Rattle.form.specs.Form.{when, judge, bodyOf}
 use Rattle.form.specs.Answer.{reading}
 use Rattle.form.specs.Conflict.{conflicts, conflictBytes}
-use Rattle.conflict.specs.declared.Listed.{Listed}
-use Rattle.conflict.specs.declared.Listed.the-variants.{Bytes, Unlisted}
-use Rattle.conflict.specs.Answer.{listing, asJudged}
-use Rattle.conflict.specs.Listing.{bytes-length}
+use Rattle.listing.specs.declared.Listed.{Listed}
+use Rattle.listing.specs.declared.Listed.the-variants.{Bytes, Unlisted}
+use Rattle.listing.specs.Answer.{listing, asJudged}
+use Rattle.listing.specs.Listing.{bytes-length}
 use Rattle.routes.specs.declared.sweep.SweepAnswer.{SweepAnswer}
 use Rattle.routes.specs.declared.sweep.SweepAnswer.the-variants.{Routed, Refused as Unswept}
 use Rattle.routes.specs.SweepAnswer.{SweepOwed, outcomeOf}

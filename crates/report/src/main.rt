@@ -13,7 +13,7 @@ ghost use Rattle.report.specs.Parts.{WalkedAdds, ThreeAdds, fiveLines};
 
 mod text;
 
-use conflict::Listed;
+use listing::Listed;
 use routes::sweep::SweepAnswer;
 use routes::walk::WalkAnswer;
 
@@ -22,7 +22,7 @@ fn entries(form: &[u8]) -> u64
     ensures { λ r. ⌜ (judge (now (form .entry)) ≡ Accepted → r ≡ length (conflicts (bodyOf (now (form .entry))))) ⌝ }
 {
     let mut none = [0u8; 1];
-    match conflict::conflicts(form, &mut none[..0]) {
+    match listing::conflicts(form, &mut none[..0]) {
         Listed::Bytes(count) => (count / 5) as u64,
         Listed::Unlisted { number: _, place } => (place / 5) as u64,
     }

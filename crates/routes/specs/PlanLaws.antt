@@ -20,7 +20,7 @@ use Rattle.relations.specs.ConflictList.{conflicts-hold}
 use Rattle.relations.specs.Listed.{listed-out}
 use Rattle.form.specs.Form.{when}
 use Rattle.conflict.specs.declared.Sets.{Sets}
-use Rattle.conflict.specs.Sets.{wayTo, listedBelow, setsOf}
+use Rattle.conflict.specs.Sets.{wayTo, setsOf}
 use Rattle.words.specs.Tabled.{tabled, rows}
 use Rattle.words.specs.Filled.{tabled-at}
 use Rattle.routes.specs.Plan.{wordAt, exitBy, Planned}
@@ -38,14 +38,14 @@ rowAt body b =
     ∷ setOf 64 (λ k. opposes body (b, 1) (k, 2))
     ∷ setOf 64 (λ k. opposes body (b, 2) (k, 1))
     ∷ setOf 64 (λ k. opposes body (b, 2) (k, 2))
-    ∷ setOf 64 (λ k. listedBelow body b (k, 1))
-    ∷ setOf 64 (λ k. listedBelow body b (k, 2))
+    ∷ setOf 64 (λ k. listed (conflicts body) b (k, 1))
+    ∷ setOf 64 (λ k. listed (conflicts body) b (k, 2))
     ∷ cond (isTest body b) 1 0
     ∷ 0 ∷ 0 ∷ 0 ∷ []
 
 -- the same from a body's sets and the block itself, with the three words that nothing uses
-abbrev pub rowFrom : Sets → Block → ℕ → List ℕ
-rowFrom sets k b =
+abbrev pub rowWith : Sets → Block → ℕ → (test : ℕ) → List ℕ
+rowWith sets k b test =
     getD (sets .targets .jump) b 0
     ∷ getD (sets .targets .fall) b 0
     ∷ k .cost
@@ -58,8 +58,11 @@ rowFrom sets k b =
     ∷ getD (sets .falling .fall) b 0
     ∷ getD (sets .listed .jump) b 0
     ∷ getD (sets .listed .fall) b 0
-    ∷ when (eqb (k .ending) 3) 1 0
+    ∷ test
     ∷ 0 ∷ 0 ∷ 0 ∷ []
+
+abbrev pub rowFrom : Sets → Block → ℕ → List ℕ
+rowFrom sets k b = rowWith sets k b (when (eqb (k .ending) 3) 1 0)
 
 -- ---- rows in the plan
 
@@ -126,8 +129,8 @@ module _ (body : Body) (b : ℕ) (h : b < 64) where
       ∷ on (λ c j. opposes body (c, 1) (j, 2)) i
       ∷ on (λ c j. opposes body (c, 2) (j, 1)) i
       ∷ on (λ c j. opposes body (c, 2) (j, 2)) i
-      ∷ on (λ c j. listedBelow body c (j, 1)) i
-      ∷ on (λ c j. listedBelow body c (j, 2)) i
+      ∷ on (λ c j. listed (conflicts body) c (j, 1)) i
+      ∷ on (λ c j. listed (conflicts body) c (j, 2)) i
       ∷ test-is k e i
       ∷ 0 ∷ 0 ∷ 0 ∷ []
 
@@ -172,10 +175,6 @@ module _ (body : Body) (g : Sound body) where
   unfolding exits block
   no-exit k h = rw (beyond (take (body .count) (body .blocks)) k noBlock (omega (arith, take-short (body .count) (body .blocks))))
 
-  below-is : (b : ℕ) (e : Edge) → listedBelow body b e ≡ listed (conflicts body) b e
-  unfolding listedBelow listed
-  below-is b e = refl
-
   listed-past : (b k w : ℕ) → body .count ≤ k → listed (conflicts body) b (k, w) ≡ false
   listed-past b k w h = split (listed (conflicts body) b (k, w)) (λ t. absurd (never t)) (λ f. f)
     where
@@ -184,9 +183,6 @@ module _ (body : Body) (g : Sound body) where
           let (p, m, s, l) = listed-out (conflicts body) b (k, w) t in
           let (u, e) = conflicts-hold body (g .onward) p .0 m .0 in
           subst (λ (os : List (ℕ × ℕ)). Mem (p .outcome, u) os) (ap (exits body) (ap (λ (x : Edge). x .0) s) ∙ no-exit k h) e
-
-  below-past : (b k w : ℕ) → body .count ≤ k → listedBelow body b (k, w) ≡ false
-  below-past b k w h = below-is b (k, w) ∙ listed-past b k w h
 
   touched-past : (b k : ℕ) → body .count ≤ k → (isTest body k && touches body b (block body k .variable)) ≡ false
   touched-past b k h = rw (past k h)
@@ -225,8 +221,8 @@ module _ (body : Body) (g : Sound body) where
     within b (suc (suc (suc (suc (suc (suc (suc zero))))))) k low high h i = past-word b 7 _ h (omega arith) refl (λ j. opposes-past (b, 1) j 2) k i
     within b (suc (suc (suc (suc (suc (suc (suc (suc zero)))))))) k low high h i = past-word b 8 _ h (omega arith) refl (λ j. opposes-past (b, 2) j 1) k i
     within b (suc (suc (suc (suc (suc (suc (suc (suc (suc zero))))))))) k low high h i = past-word b 9 _ h (omega arith) refl (λ j. opposes-past (b, 2) j 2) k i
-    within b (suc (suc (suc (suc (suc (suc (suc (suc (suc (suc zero)))))))))) k low high h i = past-word b 10 _ h (omega arith) refl (λ j. below-past b j 1) k i
-    within b (suc (suc (suc (suc (suc (suc (suc (suc (suc (suc (suc zero))))))))))) k low high h i = past-word b 11 _ h (omega arith) refl (λ j. below-past b j 2) k i
+    within b (suc (suc (suc (suc (suc (suc (suc (suc (suc (suc zero)))))))))) k low high h i = past-word b 10 _ h (omega arith) refl (λ j. listed-past b j 1) k i
+    within b (suc (suc (suc (suc (suc (suc (suc (suc (suc (suc (suc zero))))))))))) k low high h i = past-word b 11 _ h (omega arith) refl (λ j. listed-past b j 2) k i
     within b (suc (suc (suc (suc (suc (suc (suc (suc (suc (suc (suc (suc w)))))))))))) k low high h i = let z : ⊥ = omega arith in absurd z
 
     pub planned : Planned body plan
@@ -242,8 +238,8 @@ module _ (body : Body) (g : Sound body) where
           jump-falls = λ b k h i. within-word b 7 _ h (omega arith) refl k i;
           fall-jumps = λ b k h i. within-word b 8 _ h (omega arith) refl k i;
           fall-falls = λ b k h i. within-word b 9 _ h (omega arith) refl k i;
-          listed-jumps = λ b k h i. within-word b 10 _ h (omega arith) refl k i ∙ below-is b (k, 1);
-          listed-falls = λ b k h i. within-word b 11 _ h (omega arith) refl k i ∙ below-is b (k, 2);
+          listed-jumps = λ b k h i. within-word b 10 _ h (omega arith) refl k i;
+          listed-falls = λ b k h i. within-word b 11 _ h (omega arith) refl k i;
           within = within;
           tests = λ b h. read b 12 h (omega arith);
         }

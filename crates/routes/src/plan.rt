@@ -7,7 +7,6 @@ ghost use lib.Seq.{paste};
 ghost use Rattle.form.specs.Conflict.{Sound};
 ghost use Rattle.form.specs.Form.{when};
 ghost use Rattle.routes.specs.Plan.{Planned};
-ghost use Rattle.routes.specs.PlanLaws.{rowFrom};
 
 // A row of words copied into the plan at block b.
 fn put_row(plan: &mut [u64], b: usize, row: &[u64])
@@ -28,48 +27,41 @@ fn test_word(ending: u8) -> u64
     if ending == 3 { 1 } else { 0 }
 }
 
-// The words of block b.
-fn row_of(sets: conflict::Sets, block: form::Block, b: usize) -> [u64; 16]
-    requires { ⌜ b < 64 ⌝ }
-    ensures { λ r. ⌜ r ≡ rowFrom sets block b ⌝ }
-{
-    let targets = sets.targets;
-    let touched = sets.touched;
-    let denied = sets.denied;
-    let jumping = sets.jumping;
-    let falling = sets.falling;
-    let listed = sets.listed;
-    [
-        targets.jump[b] as u64,
-        targets.fall[b] as u64,
-        block.cost as u64,
-        touched[b],
-        denied.jump[b],
-        denied.fall[b],
-        jumping.jump[b],
-        jumping.fall[b],
-        falling.jump[b],
-        falling.fall[b],
-        listed.jump[b],
-        listed.fall[b],
-        test_word(block.ending),
-        0,
-        0,
-        0,
-    ]
-}
-
-// The plan of a body that the reader accepted.
+// The plan of a body that the reader accepted. The sets are taken apart once, and not for each block.
 pub fn plan_of(body: form::Body) -> [u64; 1024]
     requires { ⌜ Sound body ⌝ }
     ensures { λ r. ⌜ Planned body r ⌝ }
 {
     let sets = conflict::sets_of(body);
     let blocks = body.blocks;
+    let targets = sets.targets;
+    let touched = sets.touched;
+    let denied = sets.denied;
+    let jumping = sets.jumping;
+    let falling = sets.falling;
+    let listed = sets.listed;
     let mut plan = [0; 1024];
     let mut b = 0;
     while b < 64 {
-        let row = row_of(sets, blocks[b], b);
+        let block = blocks[b];
+        let row = [
+            targets.jump[b] as u64,
+            targets.fall[b] as u64,
+            block.cost as u64,
+            touched[b],
+            denied.jump[b],
+            denied.fall[b],
+            jumping.jump[b],
+            jumping.fall[b],
+            falling.jump[b],
+            falling.fall[b],
+            listed.jump[b],
+            listed.fall[b],
+            test_word(block.ending),
+            0,
+            0,
+            0,
+        ];
         put_row(&mut plan, b, &row);
         b += 1;
     }

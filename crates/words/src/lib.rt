@@ -3,6 +3,7 @@
 ghost use mathlib.Core.Path.{_≡_};
 ghost use mathlib.Core.Bool.{_&&_, _||_, not};
 ghost use Prim.Native.Nat.{ℕ, _<_};
+ghost use lib.Count.{trailingZeros};
 ghost use lib.Dec.{eqb};
 ghost use Rattle.laws.specs.Terms.{bit};
 
@@ -55,4 +56,24 @@ pub fn less(a: u64, b: u64) -> u64
     ensures { λ r. ⌜ ((j : ℕ) → bit r j ≡ bit a j && not (bit b j)) ⌝ }
 {
     a & !b
+}
+
+// The least number in x; 0 where there is none.
+pub fn lowest(x: u64) -> usize
+    ensures { λ r. ⌜ (r < 64) × (0 < x → r ≡ trailingZeros 64 x) ⌝ }
+{
+    if x == 0 {
+        return 0;
+    }
+    u64::trailing_zeros(x) as usize
+}
+
+// x without its least.
+pub fn rest(x: u64) -> u64
+    ensures { λ r. ⌜ ((j : ℕ) → bit r j ≡ bit x j && not (eqb j (trailingZeros 64 x))) × (0 < x → r < x) ⌝ }
+{
+    if x == 0 {
+        return 0;
+    }
+    x & (x - 1)
 }

@@ -1,23 +1,16 @@
 -- `conflict::effect_rows` meets its contract. The loop's invariant: the rows below b are right, and `from` effects are passed. The measure is what is left of the 64.
-use mathlib.Core.Path.{_≡_, refl, subst, _∙_}
+use mathlib.Core.Path.{_≡_, refl, sym, subst, _∙_}
 use mathlib.Core.Bool.{Bool, not, _&&_, _||_}
 use Prim.Native.Nat.{ℕ, _+_, _-_, _≤_, _<_}
 use native.Mathlib.Omega.{arith}
-use lib.Dec.{eqb}
-use lib.IntN.{ℤ, pos}
-use lib.ListN.{length, getD}
-use mir.Syntax.{w32}
-use mir.Val.{SFits}
-use mir.Facts.{toZ-ofZ}
-use Rattle.laws.specs.Terms.{bit, any}
-use Rattle.words.specs.Filled.{Told, told-none, told-more, told-end, any-last}
+use lib.ListN.{length}
+use Rattle.words.specs.Filled.{Told, told-none, told-more, told-end}
 use mathlib.Core.Logic.{inl}
 use mathlib.Core.List.{List}
-use Rattle.form.specs.declared.Block.{Block}
 use Rattle.form.specs.declared.Effect.{Effect}
-use Rattle.form.specs.Conflict.{block, effectsBelow, effectsOf, noBlock}
+use Rattle.form.specs.Conflict.{effectsBelow, effectsOf, noBlock}
 use Rattle.relations.specs.Blocks.{taken}
-use Rattle.relations.specs.Effects.{Reached, reached-next, own-part}
+use Rattle.relations.specs.Effects.{Reached}
 use Rattle.conflict.specs.Parts.{withParts, TouchedBy, DeniedBy, HitsOf}
 use Rattle.conflict.specs.Turns.{own-effects, next-effects}
 use borrow.Author.Needs.{needs}
@@ -25,7 +18,7 @@ use Rattle.conflict.proofs.effect_rows.Statement.{statement}
 use Rattle.conflict.proofs.effect_rows.Tie as tie
 
 abbrev Inv-loop : tie.InvT-loop
-Inv-loop count effects tests variable jump fall constant blocks touched₀ by-jump₀ by-fall₀ from₀ b₀ touched by-jump by-fall from b =
+Inv-loop count effects tests variable jump fall constant blocks groups touched₀ by-jump₀ by-fall₀ from₀ b₀ touched by-jump by-fall from b =
     (b ≤ 64) × (from ≤ 256)
     × Reached 256 (effectsBelow (withParts count blocks effects) b) from
     × Told 0 (λ b x. TouchedBy tests variable (effectsOf (withParts count blocks effects) b) x) 64 b touched
@@ -33,7 +26,7 @@ Inv-loop count effects tests variable jump fall constant blocks touched₀ by-ju
     × Told 0 (λ b x. DeniedBy tests variable fall constant (effectsOf (withParts count blocks effects) b) x) 64 b by-fall
 
 abbrev μ-loop : tie.MeasureT-loop
-μ-loop count effects tests variable jump fall constant blocks touched₀ by-jump₀ by-fall₀ from₀ b₀ touched by-jump by-fall from b = 64 - b
+μ-loop count effects tests variable jump fall constant blocks groups touched₀ by-jump₀ by-fall₀ from₀ b₀ touched by-jump by-fall from b = 64 - b
 
 loop-holds : tie.Need-loop-holds Inv-loop μ-loop
 unfolding effectsBelow
@@ -51,8 +44,13 @@ own-block-requires c κs = search needs
 within-requires : tie.Need-within-requires Inv-loop μ-loop
 within-requires c κs = omega arith
 
+slice-aggregate-hits-of : tie.Need-slice-aggregate-hits-of Inv-loop μ-loop
+slice-aggregate-hits-of c = sym (c .before .before .before .before .before .before .tests-by-variable .ensures .size)
+
 hits-of-requires : tie.Need-hits-of-requires Inv-loop μ-loop
-hits-of-requires c κs = (c .before .before .before .before .before .before .before .before .pre, omega (arith, c .within .ensures .room))
+hits-of-requires c κs =
+    let made = c .before .before .before .before .before .before in
+    (made .before .before .before .before .pre, (made .tests-by-variable .ensures, omega (arith, c .before .within .ensures .room)))
 
 mul-touched : tie.Need-mul-touched Inv-loop μ-loop
 mul-touched c = omega arith
@@ -83,9 +81,9 @@ loop-less c = omega arith
 
 loop-again : tie.Need-loop-again Inv-loop μ-loop
 loop-again c =
-    let within = c .before in
+    let within = c .before .before in
     let at = within .before .before .before .before in
-    let start = at .before .before .before .before in
+    let start = at .before .before .before .before .before in
     let a = start .args in
     let i = at .loop .inv in
     let size : length (a .t2) ≡ 64 = start .good .1 .0 .1 .0 .1 in
@@ -117,11 +115,13 @@ effect-rows-spec =
     (tie.spec
     Inv-loop
     μ-loop
+    (λ c κs. c .before .before .before .pre .variables)
     loop-holds
     mul-own-block
     array-copy-out-own-block
     own-block-requires
     within-requires
+    slice-aggregate-hits-of
     hits-of-requires
     mul-touched
     array-write-touched

@@ -1,6 +1,5 @@
 -- `conflict::find` meets its contract. What the called functions say of one another is put together by `found-is`.
 use mathlib.Core.Path.{_≡_}
-use mathlib.Core.Bool.{Bool}
 use lib.ListN.{length}
 use Rattle.conflict.specs.Finding.{sized, found-is}
 use borrow.Author.Needs.{needs}

@@ -1,44 +1,33 @@
 -- `conflict::firsts_of` meets its contract. The loop's invariant: the rows below s are right. The measure is what is left of the 64.
-use mathlib.Core.Path.{_≡_, refl, ap, ap₂, _∙_}
-use mathlib.Core.Bool.{Bool, _&&_, _||_}
+use mathlib.Core.Path.{refl, ap, _∙_}
+use mathlib.Core.Bool.{Bool, _&&_, and-false}
 use Prim.Native.Nat.{ℕ, _-_, _≤_}
 use native.Mathlib.Omega.{arith}
-use lib.Dec.{eqb}
 use lib.ListN.{getD}
 use Rattle.laws.specs.Terms.{bit}
 use Rattle.words.specs.Filled.{Told, told-none, told-more, told-end}
-use Rattle.conflict.specs.Parts.{AssignedAt, ByJumpAt, ByFallAt}
+use Rattle.laws.specs.Sets.{bit-none}
+use Rattle.conflict.specs.declared.Reach.{Reach}
+use Rattle.conflict.specs.Parts.{AssignedAt, LedAt, OnTest}
 use borrow.Author.Needs.{needs}
 use Rattle.conflict.proofs.firsts_of.Statement.{statement}
 use Rattle.conflict.proofs.firsts_of.Tie as tie
 
 abbrev Inv-loop : tie.InvT-loop
-Inv-loop jump fall touched denied jumping falling assigned₀ jumps₀ falls₀ s₀ assigned jumps falls s =
+Inv-loop tests jump fall touched denied jumping falling assigned₀ jumps₀ falls₀ s₀ assigned jumps falls s =
     (s ≤ 64)
-    × Told 0 (AssignedAt jump fall touched denied) 64 s assigned
-    × Told 0 (ByJumpAt jump fall touched jumping) 64 s jumps
-    × Told 0 (ByFallAt jump fall touched falling) 64 s falls
+    × Told 0 (OnTest tests (AssignedAt jump fall touched denied)) 64 s assigned
+    × Told 0 (OnTest tests (LedAt jump fall touched jumping jump)) 64 s jumps
+    × Told 0 (OnTest tests (LedAt jump fall touched falling fall)) 64 s falls
 
 abbrev μ-loop : tie.MeasureT-loop
-μ-loop jump fall touched denied jumping falling assigned₀ jumps₀ falls₀ s₀ assigned jumps falls s = 64 - s
+μ-loop tests jump fall touched denied jumping falling assigned₀ jumps₀ falls₀ s₀ assigned jumps falls s = 64 - s
 
 loop-holds : tie.Need-loop-holds Inv-loop μ-loop
 loop-holds c = (omega arith, told-none _ _ _ _ refl, told-none _ _ _ _ refl, told-none _ _ _ _ refl)
 
-reach-of-requires : tie.Need-reach-of-requires Inv-loop μ-loop
-reach-of-requires c κs = let p = c .before .before .before .before .before .before .before .before .pre in (p .0, (omega arith, p .1 .1))
-
-either-requires : tie.Need-either-requires Inv-loop μ-loop
-either-requires c κs = search needs
-
-with-requires : tie.Need-with-requires Inv-loop μ-loop
-with-requires c κs = omega arith
-
-column-requires : tie.Need-column-requires Inv-loop μ-loop
-column-requires c κs = c .before .before .before .before .before .before .before .before .before .before .before .pre .1 .0 .0
-
-both-requires : tie.Need-both-requires Inv-loop μ-loop
-both-requires c κs = search needs
+reach-if-requires : tie.Need-reach-if-requires Inv-loop μ-loop
+reach-if-requires c κs = let p = c .before .before .before .before .before .before .before .before .before .pre in ((p .0 .0, (p .0 .1 .0, (p .0 .1 .1, p .1 .0 .0))), (omega arith, p .1 .1))
 
 mul-assigned : tie.Need-mul-assigned Inv-loop μ-loop
 mul-assigned c = omega arith
@@ -52,9 +41,6 @@ mul-both c = omega arith
 shared-slice-read-both : tie.Need-shared-slice-read-both Inv-loop μ-loop
 shared-slice-read-both c = omega arith
 
-both-requires-2 : tie.Need-both-requires-2 Inv-loop μ-loop
-both-requires-2 c κs = search needs
-
 mul-jumps : tie.Need-mul-jumps Inv-loop μ-loop
 mul-jumps c = omega arith
 
@@ -66,9 +52,6 @@ mul-both-2 c = omega arith
 
 shared-slice-read-both-2 : tie.Need-shared-slice-read-both-2 Inv-loop μ-loop
 shared-slice-read-both-2 c = omega arith
-
-both-requires-3 : tie.Need-both-requires-3 Inv-loop μ-loop
-both-requires-3 c κs = search needs
 
 mul-falls : tie.Need-mul-falls Inv-loop μ-loop
 mul-falls c = omega arith
@@ -84,20 +67,25 @@ loop-less c = omega arith
 
 loop-again : tie.Need-loop-again Inv-loop μ-loop
 loop-again c =
-    let both = c .before .before .before .before in
-    let found = both .before .before .before .before in
-    let at = found .before .before in
-    let reached = found .reach-of .ensures in (
+    let found = c .before .before .before .before in
+    let has = found .before in
+    let at = has .before .before in
+    let reach = found .reach-if .ensures .0 in
+    let none = found .reach-if .ensures .1 in
+    let said = has .has .ensures in
+    let a = at .before .before .before .before .before .before .before .args in
+    let jumping = getD (a .jumping .now) (at .loop .s) 0 in
+    let falling = getD (a .falling .now) (at .loop .s) 0 in (
       omega arith,
-      told-more _ _ _ _ _ _ (omega arith) (at .loop .inv .1)
-          (record {
-            reach = found .reach-of .result;
-            reached = reached;
-            bits =
-                λ j. both .both .ensures j ∙ ap₂ _&&_ (both .before .column .ensures j) (both .before .before .with .ensures j ∙ ap (λ (b : Bool). b || eqb j (at .loop .s)) (both .before .before .before .either .ensures j));
-          }),
-      told-more _ _ _ _ _ _ (omega arith) (at .loop .inv .2) (record { reach = found .reach-of .result; reached = reached; bits = c .before .before .both2 .ensures }),
-      told-more _ _ _ _ _ _ (omega arith) (at .loop .inv .3) (record { reach = found .reach-of .result; reached = reached; bits = c .both3 .ensures }),
+      told-more _ _ _ _ _ _ (omega arith) (at .loop .inv .1) (record { on = λ e. reach (said ∙ e) .assigned; off = λ e j. ap (λ (r : Reach). bit (r .assigned) j) (none (said ∙ e)) ∙ bit-none j }),
+      told-more _ _ _ _ _ _ (omega arith) (at .loop .inv .2) (record {
+        on = λ e P w j. c .before .before .both .ensures j ∙ ap (λ (b : Bool). bit jumping j && b) (reach (said ∙ e) .jumps P w j);
+        off = λ e j. c .before .before .both .ensures j ∙ ap (λ (r : Reach). bit jumping j && bit (r .jump) j) (none (said ∙ e)) ∙ ap (λ (b : Bool). bit jumping j && b) (bit-none j) ∙ and-false (bit jumping j);
+      }),
+      told-more _ _ _ _ _ _ (omega arith) (at .loop .inv .3) (record {
+        on = λ e P w j. c .both2 .ensures j ∙ ap (λ (b : Bool). bit falling j && b) (reach (said ∙ e) .falls P w j);
+        off = λ e j. c .both2 .ensures j ∙ ap (λ (r : Reach). bit falling j && bit (r .fall) j) (none (said ∙ e)) ∙ ap (λ (b : Bool). bit falling j && b) (bit-none j) ∙ and-false (bit falling j);
+      }),
     )
 
 returns : tie.Need-returns Inv-loop μ-loop
@@ -116,21 +104,18 @@ firsts-of-spec =
     Inv-loop
     μ-loop
     loop-holds
-    reach-of-requires
-    either-requires
-    with-requires
-    column-requires
-    both-requires
+    (λ _ _. tt)
+    reach-if-requires
     mul-assigned
     array-write-assigned
     mul-both
     shared-slice-read-both
-    both-requires-2
+    (λ _ _. tt)
     mul-jumps
     array-write-jumps
     mul-both-2
     shared-slice-read-both-2
-    both-requires-3
+    (λ _ _. tt)
     mul-falls
     array-write-falls
     add-s

@@ -1,66 +1,56 @@
--- `conflict::opposed` meets its contract. The loop's invariant: the word has those of the set below j. The measure is what is left of the 64.
-use mathlib.Core.Path.{_≡_, ap, _∙_}
-use mathlib.Core.Bool.{Bool, _&&_, _||_, not}
-use Prim.Native.Nat.{ℕ, _-_, _≤_}
+-- `conflict::opposed` meets its contract. The loop's invariant: the word has those of the set that are not left. The measure is what is left.
+use mathlib.Core.Path.{_≡_, _∙_}
+use mathlib.Core.Bool.{not}
+use Prim.Native.Nat.{ℕ, _^_, _<_}
 use native.Mathlib.Omega.{arith}
-use lib.IntN.{ℤ, pos}
+use lib.IntN.{pos}
 use lib.ListN.{getD, length}
 use mir.Syntax.{w32}
 use mir.Val.{toZ, ofZ, SFits}
 use mir.Facts.{toZ-ofZ}
-use Rattle.laws.specs.Terms.{bit}
-use Rattle.laws.specs.Sets.{bit-beyond}
-use Rattle.relations.specs.PairTest.{shares}
-use Rattle.words.specs.Filled.{Upto, upto-none, upto-more, upto-end}
+use Rattle.relations.specs.PairTest.{shares, test-is}
+use Rattle.words.specs.Sorted.{Sifted, sifted-none, sifted-more, sifted-end}
 use borrow.Author.Needs.{needs}
 use Rattle.conflict.proofs.opposed.Statement.{statement}
 use Rattle.conflict.proofs.opposed.Tie as tie
 
 abbrev Inv-loop : tie.InvT-loop
-Inv-loop set relations constants relation constant r₀ j₀ r j =
-    (j ≤ 64) × Upto (λ k. bit set k && not (shares relation (toZ w32 constant) (getD relations k 0) (getD constants k (pos 0)))) j r
+Inv-loop set relations constants relation constant r₀ left₀ r left =
+    (left < 2 ^ 64) × Sifted (λ k. not (shares relation (toZ w32 constant) (getD relations k 0) (getD constants k (pos 0)))) set left r
 
 abbrev μ-loop : tie.MeasureT-loop
-μ-loop set relations constants relation constant r₀ j₀ r j = 64 - j
+μ-loop set relations constants relation constant r₀ left₀ r left = left
 
 loop-holds : tie.Need-loop-holds Inv-loop μ-loop
-loop-holds c = (omega arith, upto-none _)
+loop-holds c = (c .before .fits .set .fits, sifted-none _ _)
 
-has-requires : tie.Need-has-requires Inv-loop μ-loop
-has-requires c κs = search needs
+shared-slice-read-conflicting : tie.Need-shared-slice-read-conflicting Inv-loop μ-loop
+shared-slice-read-conflicting c = omega (arith, c .before .lowest .ensures .0, c .before .before .before .before .before .pre)
 
-shared-slice-read-opposed-if : tie.Need-shared-slice-read-opposed-if Inv-loop μ-loop
-shared-slice-read-opposed-if c = omega arith
+mul-conflicting : tie.Need-mul-conflicting Inv-loop μ-loop
+mul-conflicting c = omega (arith, c .before .lowest .ensures .0)
 
-mul-opposed-if : tie.Need-mul-opposed-if Inv-loop μ-loop
-mul-opposed-if c = omega arith
-
-shared-slice-copy-out-opposed-if : tie.Need-shared-slice-copy-out-opposed-if Inv-loop μ-loop
-shared-slice-copy-out-opposed-if c = omega arith
-
-opposed-if-requires : tie.Need-opposed-if-requires Inv-loop μ-loop
-opposed-if-requires c κs = search needs
+shared-slice-copy-out-conflicting : tie.Need-shared-slice-copy-out-conflicting Inv-loop μ-loop
+shared-slice-copy-out-conflicting c = omega (arith, c .before .lowest .ensures .0, c .before .before .before .before .before .pre)
 
 put-requires : tie.Need-put-requires Inv-loop μ-loop
-put-requires c κs = omega arith
-
-add-j : tie.Need-add-j Inv-loop μ-loop
-add-j c = omega arith
+put-requires c κs = c .before .before .before .lowest .ensures .0
 
 loop-less : tie.Need-loop-less Inv-loop μ-loop
-loop-less c = omega arith
+loop-less c = c .rest .ensures .1 (omega (arith, c .before .before .before .before .before .before .loop-test .taken))
 
 loop-again : tie.Need-loop-again Inv-loop μ-loop
 loop-again c =
-    let at = c .before .before .before .before .before .before in
-    let start = at .before .before in
-    let a = start .args in
-    let fits : SFits w32 (getD (a .constants .now) (at .loop .j) (pos 0)) = record { sfits = c .before .before .opposed-if-arg .given } in (
-      omega arith,
-      upto-more (λ k. bit (a .set) k && not (shares (a .relation) (toZ w32 (ofZ w32 (a .constant))) (getD (a .relations .now) k 0) (getD (a .constants .now) k (pos 0)))) _ _ _ _ (at .loop .inv .1)
-          ((rw (toZ-ofZ fits) at (c .before .opposed-if .ensures))
-          ∙ ap (λ (b : Bool). b && not (shares (a .relation) (toZ w32 (ofZ w32 (a .constant))) (getD (a .relations .now) (at .loop .j) 0) (getD (a .constants .now) (at .loop .j) (pos 0)))) (c .before .before .before .before .has .ensures))
-          (c .put .ensures),
+    let low = c .before .before .before .before .before in
+    let at = low .before .before in
+    let a = at .before .before .args in
+    let some : 0 < at .loop .left = omega (arith, low .before .loop-test .taken) in
+    let fits : SFits w32 (getD (a .constants .now) (low .lowest .result) (pos 0)) = record { sfits = c .before .before .before .conflicting-arg .given } in (
+      omega (arith, c .rest .ensures .1 some, at .loop .inv .0),
+      sifted-more (λ k. not (shares (a .relation) (toZ w32 (ofZ w32 (a .constant))) (getD (a .relations .now) k 0) (getD (a .constants .now) k (pos 0)))) (a .set)
+          (at .loop .left) _ _ _ (low .lowest .result) _ (at .loop .inv .1) (at .loop .inv .0) some (low .lowest .ensures .1)
+          ((rw (toZ-ofZ fits) at (c .before .before .conflicting .ensures)) ∙ test-is 0 (a .relation) (toZ w32 (ofZ w32 (a .constant))) (getD (a .relations .now) (low .lowest .result) 0) (getD (a .constants .now) (low .lowest .result) (pos 0)))
+          (c .before .put .ensures) (c .rest .ensures .0),
     )
 
 returns : tie.Need-returns Inv-loop μ-loop
@@ -68,23 +58,9 @@ returns c =
     let start = c .before .before .before in
     let a = start .args in
     rw (toZ-ofZ (start .fits .constant)) at
-    (upto-end (λ k. bit (a .set) k && not (shares (a .relation) (toZ w32 (ofZ w32 (a .constant))) (getD (a .relations .now) k 0) (getD (a .constants .now) k (pos 0)))) _ _
-    (λ j l. rw (bit-beyond 64 j (start .fits .set .fits) (omega (arith, c .loop-test .left)))) (c .before .loop .inv .1))
+    (sifted-end (λ k. not (shares (a .relation) (toZ w32 (ofZ w32 (a .constant))) (getD (a .relations .now) k 0) (getD (a .constants .now) k (pos 0)))) (a .set) _ _ (c .before .loop .inv .1) (c .loop-test .left))
 
 pub opposed-spec : {M : Type 1} → statement M
 opposed-spec =
     tie.close
-    (tie.spec
-    Inv-loop
-    μ-loop
-    loop-holds
-    has-requires
-    shared-slice-read-opposed-if
-    mul-opposed-if
-    shared-slice-copy-out-opposed-if
-    opposed-if-requires
-    put-requires
-    add-j
-    loop-less
-    loop-again
-    returns)
+    (tie.spec Inv-loop μ-loop loop-holds (λ _ _. tt) shared-slice-read-conflicting mul-conflicting shared-slice-copy-out-conflicting (λ _ _. tt) put-requires (λ _ _. tt) loop-less loop-again returns)

@@ -1,16 +1,13 @@
 -- `conflict::opposed_rows` meets its contract. The loop's invariant: the rows below b are right. The measure is what is left of the 64.
-use mathlib.Core.Path.{_≡_, refl, sym, ap, ap₂, _∙_}
-use mathlib.Core.Bool.{Bool, not, _&&_, _||_}
-use Prim.Native.Nat.{ℕ, _+_, _-_, _≤_, _<_}
+use mathlib.Core.Path.{refl}
+use Prim.Native.Nat.{_-_, _≤_}
 use native.Mathlib.Omega.{arith}
-use lib.Dec.{eqb}
-use lib.IntN.{ℤ, pos}
-use lib.ListN.{length, getD}
+use lib.IntN.{pos}
+use lib.ListN.{getD}
 use mir.Syntax.{w32}
 use mir.Val.{SFits}
 use mir.Facts.{toZ-ofZ}
-use Rattle.laws.specs.Terms.{bit, any}
-use Rattle.words.specs.Filled.{Told, told-none, told-more, told-end, any-last}
+use Rattle.words.specs.Filled.{Told, told-none, told-more, told-end}
 use Rattle.conflict.specs.Parts.{OpposedAt}
 use Rattle.conflict.proofs.opposed_rows.Statement.{statement}
 use Rattle.conflict.proofs.opposed_rows.Tie as tie

@@ -1,18 +1,12 @@
 -- `conflict::targets_of` meets its contract. The loop's invariant: the blocks below i have their targets. The measure is what is left of the 64.
 use mathlib.Core.Path.{_≡_, refl, ap, _∙_}
-use mathlib.Core.Bool.{Bool, _&&_}
-use Prim.Native.Nat.{ℕ, _-_, _≤_, _<_}
+use Prim.Native.Nat.{_-_, _≤_}
 use native.Mathlib.Omega.{arith}
-use lib.Dec.{eqb, ltb}
-use lib.IntN.{ℤ, pos}
-use lib.ListN.{length, length-set}
-use Rattle.laws.specs.Terms.{bit}
-use Rattle.form.specs.declared.Block.{Block}
+use lib.ListN.{length}
 use Rattle.form.specs.Conflict.{noBlock}
-use Rattle.form.specs.Relation.{opposite}
 use Rattle.relations.specs.Blocks.{taken}
-use Rattle.words.specs.Filled.{Upto, upto-none, upto-more, upto-end, Told, told-none, told-more, told-end}
-use Rattle.conflict.specs.Parts.{blockIn, TargetsOf}
+use Rattle.words.specs.Filled.{Told, told-none, told-more, told-end}
+use Rattle.conflict.specs.Parts.{blockIn}
 use Rattle.relations.specs.Joined.{jumpOf, fallOf}
 use borrow.Author.Needs.{needs}
 use Rattle.conflict.proofs.targets_of.Statement.{statement}

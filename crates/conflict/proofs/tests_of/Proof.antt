@@ -1,21 +1,19 @@
 -- `conflict::tests_of` meets its contract. The loop's invariant: the blocks below i have their places. The measure is what is left of the 64.
 use mathlib.Core.Path.{_≡_, refl, ap, _∙_}
-use mathlib.Core.Bool.{Bool, _&&_}
-use Prim.Native.Nat.{ℕ, _-_, _≤_, _<_}
+use Prim.Native.Nat.{_-_, _≤_}
 use native.Mathlib.Omega.{arith}
-use lib.Dec.{eqb, ltb}
-use lib.IntN.{ℤ, pos}
-use lib.ListN.{length, length-set, length-take, take}
+use lib.Dec.{eqb}
+use lib.IntN.{pos}
+use lib.ListN.{length, length-take, take}
 use mir.Syntax.{w32}
 use mir.Val.{SFits}
 use mir.Facts.{toZ-ofZ}
-use Rattle.laws.specs.Terms.{bit}
 use Rattle.form.specs.declared.Block.{Block}
 use Rattle.form.specs.Conflict.{noBlock}
 use Rattle.form.specs.Relation.{opposite}
 use Rattle.relations.specs.Blocks.{taken, beyond}
 use Rattle.words.specs.Filled.{Upto, upto-none, upto-more, upto-end, Told, told-none, told-more, told-end}
-use Rattle.conflict.specs.Parts.{blockIn, TestsOf}
+use Rattle.conflict.specs.Parts.{blockIn}
 use borrow.Author.Needs.{needs}
 use Rattle.conflict.proofs.tests_of.Statement.{statement}
 use Rattle.conflict.proofs.tests_of.Tie as tie

@@ -4,10 +4,12 @@ use Rattle.desk.proofs.of_walk.Statement.{statement}
 use Rattle.desk.proofs.of_walk.Tie as tie
 
 returns : tie.Need-returns
-returns c = rw (c .before .walk .given .1)
+returns c = rw (c .walk-numbers .ensures, c .before .before .walk .given .1)
 
 returns-2 : tie.Need-returns-2
-returns-2 c = rw (c .before .walk2 .given .1)
+returns-2 c = rw (c .walk-numbers2 .ensures, c .before .before .walk2 .given .1)
 
 pub of-walk-spec : {M : Type 1} → statement M
-of-walk-spec = tie.close (tie.spec (λ c. search needs) (λ c. search needs) (λ c. search needs) returns returns-2)
+of-walk-spec =
+    tie.close
+    (tie.spec (λ c. search needs) (λ _ _. tt) (λ c. search needs) (λ c. search needs) (λ _ _. tt) returns returns-2)

@@ -2,8 +2,8 @@
 use mathlib.Core.Path.{ap, _∙_}
 use Rattle.form.specs.Form.{bodyOf}
 use Rattle.form.specs.Conflict.{conflictBytes}
-use Rattle.conflict.specs.declared.Listed.{Listed}
-use Rattle.conflict.specs.Answer.{heldAfter}
+use Rattle.listing.specs.declared.Listed.{Listed}
+use Rattle.listing.specs.Answer.{heldAfter}
 use Rattle.desk.specs.Answer.{listNumbers}
 use borrow.Author.Needs.{needs}
 use Rattle.desk.proofs.somniaret_conflicts.Statement.{statement}

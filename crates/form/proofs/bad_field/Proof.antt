@@ -1,4 +1,6 @@
 -- `form::bad_field` meets its contract.
+use mathlib.Core.Bool.{_&&_, _||_}
+use lib.Dec.{ltb, eqb}
 use borrow.Author.Needs.{needs}
 use Rattle.form.specs.Form.{badField}
 use Rattle.form.proofs.bad_field.Statement.{statement}
@@ -6,7 +8,11 @@ use Rattle.form.proofs.bad_field.Tie as tie
 
 returns : tie.Need-returns
 unfolding badField
-returns c = cc
+returns c =
+    let relation = c .before .before .byte-at .ensures in
+    let kind = c .before .before .before .short-at .ensures .0 in
+    λ i.
+    (eqb (kind i) 1 && ltb 5 (relation i)) || ((eqb (kind i) 2 && c .before .bad-block .ensures i) || (eqb (kind i) 3 && c .bad-effect .ensures i))
 
 pub bad-field-spec : {M : Type 1} → statement M
 bad-field-spec =

@@ -1,13 +1,14 @@
 -- `form::blocks_of` meets its contract. The loop's invariant: the blocks gathered and those of the records left are all of the form's.
 -- The measure is what is left of the bytes.
 use mathlib.Core.Path.{sym, _∙_}
+use mathlib.Core.Logic.{⊎-elim}
 use Prim.Native.Nat.{_≤_, _-_}
 use native.Mathlib.Omega.{arith}
 use borrow.Author.Needs.{needs}
 use borrow.Author.Tests.{eq-eqb, ne-eqb}
 use lib.ListN.{length}
 use Rattle.form.specs.Form.{blocksIn, recordsFrom, zeroBlock, fill}
-use Rattle.form.specs.Filling.{Gathering, gathering-start, gathering-end, gathering-take, gathering-skip}
+use Rattle.form.specs.Filling.{Gathering, gathering-start, gathering-end, gathering-take, gathering-skip, placed-in, placed-past}
 use Rattle.form.proofs.blocks_of.Statement.{statement}
 use Rattle.form.proofs.blocks_of.Tie as tie
 
@@ -46,8 +47,11 @@ own-effects-requires c κs = omega arith
 block-at-requires : tie.Need-block-at-requires Inv-loop μ-loop
 block-at-requires c κs = omega arith
 
-with-block-requires : tie.Need-with-block-requires Inv-loop μ-loop
-with-block-requires c κs = search needs
+mul-list : tie.Need-mul-list Inv-loop μ-loop
+mul-list c = search needs
+
+array-set-from-list : tie.Need-array-set-from-list Inv-loop μ-loop
+array-set-from-list c = search needs
 
 add-count : tie.Need-add-count Inv-loop μ-loop
 add-count c = omega arith
@@ -59,10 +63,12 @@ loop-again : tie.Need-loop-again Inv-loop μ-loop
 loop-again c =
     let picked = c .before .before .before in
     let read = picked .before .before in
-    let kind = read .short-at .ensures .0 in (
+    let kind = read .short-at .ensures .0 in
+    let list = read .before .before .loop .list in
+    let x = c .before .block-at .result in (
       rw (picked .before .record-length .ensures .0, kind)
-          (gathering-take _ _ _ _ _ _ _ (read .before .loop-test .taken) _ _ (read .before .before .loop .inv .0) _ _
-          (eq-eqb _ _ (sym kind ∙ picked .if1 .taken)) (rw (c .before .block-at .ensures, c .before .before .own-effects .ensures, picked .before .record-length .ensures .0, kind)) (c .with-block .ensures)),
+          (gathering-take _ _ _ _ _ _ _ (read .before .loop-test .taken) _ _ (read .before .before .loop .inv .0) x _
+          (eq-eqb _ _ (sym kind ∙ picked .if1 .taken)) (rw (c .before .block-at .ensures, c .before .before .own-effects .ensures, picked .before .record-length .ensures .0, kind)) (⊎-elim (λ w. placed-in list x (w .0 .taken) (w .1)) (λ w. placed-past list x (w .0 .left) (w .1)) (c .if2 .came))),
       omega arith,
     )
 
@@ -86,4 +92,4 @@ pub blocks-of-spec : {M : Type 1} → statement M
 blocks-of-spec =
     tie.close
     (tie.spec Inv-loop μ-loop zero-block-requires loop-holds add-short-at short-at-requires record-length-requires cast-next add-next
-    own-effects-requires block-at-requires with-block-requires add-count loop-less loop-again loop-less-2 loop-again-2 returns)
+    own-effects-requires block-at-requires mul-list array-set-from-list add-count loop-less loop-again loop-less-2 loop-again-2 returns)

@@ -1,13 +1,14 @@
 -- `form::effects_of` meets its contract. The loop's invariant: the effects gathered and those of the records left are all of the form's.
 -- The measure is what is left of the bytes.
 use mathlib.Core.Path.{sym, _∙_}
+use mathlib.Core.Logic.{⊎-elim}
 use Prim.Native.Nat.{_≤_, _-_}
 use native.Mathlib.Omega.{arith}
 use borrow.Author.Needs.{needs}
 use borrow.Author.Tests.{eq-eqb, ne-eqb}
 use lib.ListN.{length}
 use Rattle.form.specs.Form.{effectsIn, recordsFrom, zeroEffect, fill}
-use Rattle.form.specs.Filling.{Gathering, gathering-start, gathering-end, gathering-take, gathering-skip}
+use Rattle.form.specs.Filling.{Gathering, gathering-start, gathering-end, gathering-take, gathering-skip, placed-in, placed-past}
 use Rattle.form.proofs.effects_of.Statement.{statement}
 use Rattle.form.proofs.effects_of.Tie as tie
 
@@ -43,8 +44,11 @@ add-next c = omega arith
 effect-at-requires : tie.Need-effect-at-requires Inv-loop μ-loop
 effect-at-requires c κs = omega arith
 
-with-effect-requires : tie.Need-with-effect-requires Inv-loop μ-loop
-with-effect-requires c κs = search needs
+mul-list : tie.Need-mul-list Inv-loop μ-loop
+mul-list c = search needs
+
+array-set-from-list : tie.Need-array-set-from-list Inv-loop μ-loop
+array-set-from-list c = search needs
 
 add-count : tie.Need-add-count Inv-loop μ-loop
 add-count c = omega arith
@@ -56,10 +60,12 @@ loop-again : tie.Need-loop-again Inv-loop μ-loop
 loop-again c =
     let picked = c .before .before in
     let read = picked .before .before in
-    let kind = read .short-at .ensures .0 in (
+    let kind = read .short-at .ensures .0 in
+    let list = read .before .before .loop .list in
+    let x = c .before .effect-at .result in (
       rw (picked .before .record-length .ensures .0, kind)
-          (gathering-take _ _ _ _ _ _ _ (read .before .loop-test .taken) _ _ (read .before .before .loop .inv .0) _ _
-          (eq-eqb _ _ (sym kind ∙ picked .if1 .taken)) (c .before .effect-at .ensures) (c .with-effect .ensures)),
+          (gathering-take _ _ _ _ _ _ _ (read .before .loop-test .taken) _ _ (read .before .before .loop .inv .0) x _
+          (eq-eqb _ _ (sym kind ∙ picked .if1 .taken)) (c .before .effect-at .ensures) (⊎-elim (λ w. placed-in list x (w .0 .taken) (w .1)) (λ w. placed-past list x (w .0 .left) (w .1)) (c .if2 .came))),
       omega arith,
     )
 
@@ -83,4 +89,4 @@ pub effects-of-spec : {M : Type 1} → statement M
 effects-of-spec =
     tie.close
     (tie.spec Inv-loop μ-loop zero-effect-requires loop-holds add-short-at short-at-requires record-length-requires cast-next add-next
-    effect-at-requires with-effect-requires add-count loop-less loop-again loop-less-2 loop-again-2 returns)
+    effect-at-requires mul-list array-set-from-list add-count loop-less loop-again loop-less-2 loop-again-2 returns)

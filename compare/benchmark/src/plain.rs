@@ -1,0 +1,461 @@
+//! A plain Rust sweep of the same method as the proved one, written for speed and proved by nothing: the form is read once,
+//! the sets of edges are worked out as words, and rows are built from the last block down into the lent table.
+
+const MOST_BLOCKS: usize = 64;
+const MOST_EFFECTS: usize = 256;
+const ROW: usize = 64;
+
+#[derive(Clone, Copy, Debug, PartialEq, Eq)]
+pub struct Refusal {
+    pub number: u64,
+    pub place: u64,
+}
+
+#[derive(Clone, Copy, Debug, PartialEq, Eq)]
+pub struct Swept {
+    pub iterations: u64,
+    pub weight: u64,
+    pub bound: u64,
+    pub kept: u64,
+}
+
+#[derive(Clone, Copy, Debug, Default, PartialEq, Eq)]
+#[repr(C)]
+pub struct Entry {
+    pub jumps: u64,
+    pub falls: u64,
+    pub weight: u64,
+    pub jumped: u64,
+    pub fallen: u64,
+}
+
+#[derive(Clone, Copy, Default)]
+struct Block {
+    offset: usize,
+    cost: u32,
+    ending: u8,
+    jump: u8,
+    fall: u8,
+    variable: u8,
+    relation: u8,
+    constant: i32,
+    effects_from: usize,
+    effects_to: usize,
+}
+
+#[derive(Clone, Copy, Default)]
+struct Effect {
+    variable: u8,
+    how: u8,
+    constant: i32,
+}
+
+struct Body {
+    initial: i32,
+    step: i32,
+    relation: u8,
+    limit: i32,
+    blocks: [Block; MOST_BLOCKS],
+    block_count: usize,
+    effects: [Effect; MOST_EFFECTS],
+    effect_count: usize,
+}
+
+fn refuse<T>(number: u64, place: usize) -> Result<T, Refusal> {
+    Err(Refusal { number, place: place as u64 })
+}
+
+fn i32_at(bytes: &[u8], at: usize) -> i32 {
+    i32::from_le_bytes(bytes[at..at + 4].try_into().unwrap())
+}
+
+/// The form, read and judged in one pass over its records, then block by block.
+fn read(form: &[u8]) -> Result<Body, Refusal> {
+    let mut body = Body {
+        initial: 0,
+        step: 0,
+        relation: 0,
+        limit: 0,
+        blocks: [Block::default(); MOST_BLOCKS],
+        block_count: 0,
+        effects: [Effect::default(); MOST_EFFECTS],
+        effect_count: 0,
+    };
+    let mut at = 0;
+    while at < form.len() {
+        let rest = &form[at..];
+        if rest.len() < 4 {
+            return refuse(10, at);
+        }
+        let length = u16::from_le_bytes([rest[0], rest[1]]) as usize;
+        let kind = u16::from_le_bytes([rest[2], rest[3]]);
+        let right = match kind {
+            1 | 2 => 17,
+            3 => 10,
+            _ => return refuse(12, at),
+        };
+        if length != right {
+            return refuse(11, at);
+        }
+        if rest.len() < length {
+            return refuse(10, at);
+        }
+        match kind {
+            1 => {
+                if at != 0 {
+                    return refuse(13, at);
+                }
+                if rest[12] > 5 {
+                    return refuse(15, at);
+                }
+                body.initial = i32_at(rest, 4);
+                body.step = i32_at(rest, 8);
+                body.relation = rest[12];
+                body.limit = i32_at(rest, 13);
+            }
+            2 => read_block(&mut body, rest, at)?,
+            _ => {
+                if body.block_count == 0 {
+                    return refuse(13, at);
+                }
+                if body.effect_count == MOST_EFFECTS {
+                    return refuse(14, at);
+                }
+                let effect = Effect { variable: rest[4], how: rest[5], constant: i32_at(rest, 6) };
+                if effect.variable > 15 || effect.how > 1 || (effect.how == 0 && effect.constant != 0) {
+                    return refuse(15, at);
+                }
+                body.effects[body.effect_count] = effect;
+                body.effect_count += 1;
+                body.blocks[body.block_count - 1].effects_to = body.effect_count;
+            }
+        }
+        at += length;
+    }
+    if body.block_count == 0 {
+        return refuse(17, form.len());
+    }
+    let last = body.block_count - 1;
+    for (b, block) in body.blocks[..body.block_count].iter().enumerate() {
+        if (block.ending == 0) != (b == last) {
+            return refuse(18, block.offset);
+        }
+        if (block.ending >= 1 && block.jump as usize > last) || (block.ending >= 2 && block.fall as usize > last) {
+            return refuse(19, block.offset);
+        }
+    }
+    Ok(body)
+}
+
+fn read_block(body: &mut Body, rest: &[u8], at: usize) -> Result<(), Refusal> {
+    if at == 0 {
+        return refuse(13, at);
+    }
+    let b = body.block_count;
+    if b == MOST_BLOCKS {
+        return refuse(14, at);
+    }
+    let block = Block {
+        offset: at,
+        cost: u32::from_le_bytes(rest[4..8].try_into().unwrap()),
+        ending: rest[8],
+        jump: rest[9],
+        fall: rest[10],
+        variable: rest[11],
+        relation: rest[12],
+        constant: i32_at(rest, 13),
+        effects_from: body.effect_count,
+        effects_to: body.effect_count,
+    };
+    let unused_is_zero = match block.ending {
+        0 => rest[9..17].iter().all(|byte| *byte == 0),
+        1 => rest[10..17].iter().all(|byte| *byte == 0),
+        2 => rest[11..17].iter().all(|byte| *byte == 0),
+        3 => block.variable <= 15 && block.relation <= 5,
+        _ => false,
+    };
+    if block.cost > 1_000_000 || !unused_is_zero {
+        return refuse(15, at);
+    }
+    if (block.ending >= 1 && block.jump as usize <= b) || (block.ending >= 2 && block.fall as usize <= b) {
+        return refuse(16, at);
+    }
+    body.blocks[b] = block;
+    body.block_count += 1;
+    Ok(())
+}
+
+fn meets(relation: u8, value: i64, constant: i64) -> bool {
+    match relation {
+        0 => value == constant,
+        1 => value != constant,
+        2 => value < constant,
+        3 => value >= constant,
+        4 => value > constant,
+        _ => value <= constant,
+    }
+}
+
+/// The loop count, or 0 where there is none.
+fn count(initial: i32, step: i32, relation: u8, limit: i32) -> u64 {
+    let (initial, step, limit) = (initial as i64, step as i64, limit as i64);
+    let fits = |value: i64| i32::try_from(value).is_ok();
+    if !fits(initial + step) {
+        return 0;
+    }
+    if !meets(relation, initial + step, limit) {
+        return 1;
+    }
+    if step == 0 {
+        return 0;
+    }
+    let k = match relation {
+        0 => 2,
+        1 => {
+            let gap = limit - initial;
+            if gap % step != 0 || gap / step < 1 {
+                return 0;
+            }
+            gap / step
+        }
+        _ => {
+            // Values run one way: the first that does not meet the relation is at the limit, or one past it for ≥ and ≤.
+            let up = matches!(relation, 2 | 5);
+            if up != (step > 0) {
+                return 0;
+            }
+            let gap = if up { limit - initial } else { initial - limit } + matches!(relation, 3 | 5) as i64;
+            let size = step.abs();
+            (gap + size - 1) / size
+        }
+    };
+    if fits(initial + k * step) {
+        k as u64
+    } else {
+        0
+    }
+}
+
+/// Does no whole number meet both?
+fn conflicting(relation1: u8, constant1: i32, relation2: u8, constant2: i32) -> bool {
+    let (lowest1, highest1) = interval(relation1, constant1);
+    let (lowest2, highest2) = interval(relation2, constant2);
+    let (lowest, highest) = (lowest1.max(lowest2), highest1.min(highest2));
+    match (relation1 == 1, relation2 == 1) {
+        (false, false) => lowest > highest,
+        (true, false) => lowest > highest || (lowest == highest && lowest == constant1 as i64),
+        (false, true) => lowest > highest || (lowest == highest && lowest == constant2 as i64),
+        (true, true) => false,
+    }
+}
+
+fn interval(relation: u8, constant: i32) -> (i64, i64) {
+    let constant = constant as i64;
+    match relation {
+        0 => (constant, constant),
+        1 => (i64::MIN, i64::MAX),
+        2 => (i64::MIN, constant - 1),
+        3 => (constant, i64::MAX),
+        4 => (constant + 1, i64::MAX),
+        _ => (i64::MIN, constant),
+    }
+}
+
+/// What the sweep needs of a block: sets of edges, those by jump and those by fall.
+#[derive(Clone, Copy, Default)]
+struct Plan {
+    touched: u64,
+    denied: [u64; 2],
+    /// Of the block's edge by jump and of that by fall: the edges that it conflicts with.
+    against: [[u64; 2]; 2],
+    listed: [u64; 2],
+}
+
+fn bits(mut set: u64) -> impl Iterator<Item = usize> {
+    std::iter::from_fn(move || {
+        (set != 0).then(|| {
+            let bit = set.trailing_zeros() as usize;
+            set &= set - 1;
+            bit
+        })
+    })
+}
+
+fn opposite(relation: u8) -> u8 {
+    relation ^ 1
+}
+
+fn plan_of(body: &Body) -> [Plan; MOST_BLOCKS] {
+    let mut plan = [Plan::default(); MOST_BLOCKS];
+    let blocks = &body.blocks[..body.block_count];
+    let mut tests_on = [0u64; 16];
+    for (b, block) in blocks.iter().enumerate() {
+        if block.ending == 3 {
+            tests_on[block.variable as usize] |= 1 << b;
+        }
+    }
+    let relation_of = |block: &Block, way: usize| if way == 0 { block.relation } else { opposite(block.relation) };
+    for (b, block) in blocks.iter().enumerate() {
+        for effect in &body.effects[block.effects_from..block.effects_to] {
+            let on = tests_on[effect.variable as usize];
+            plan[b].touched |= on;
+            for way in 0..2 {
+                plan[b].denied[way] &= !on;
+                if effect.how == 1 {
+                    for t in bits(on) {
+                        if conflicting(0, effect.constant, relation_of(&blocks[t], way), blocks[t].constant) {
+                            plan[b].denied[way] |= 1 << t;
+                        }
+                    }
+                }
+            }
+        }
+        if block.ending == 3 {
+            for t in bits(tests_on[block.variable as usize]) {
+                for own in 0..2 {
+                    for way in 0..2 {
+                        let (one, other) = (relation_of(block, own), relation_of(&blocks[t], way));
+                        if conflicting(one, block.constant, other, blocks[t].constant) {
+                            plan[b].against[own][way] |= 1 << t;
+                        }
+                    }
+                }
+            }
+        }
+    }
+    // For each test, the blocks from which a clean path leads to it, and from those the lowest first of each of its edges.
+    for s in 0..blocks.len() {
+        if blocks[s].ending != 3 {
+            continue;
+        }
+        let mut clean = if plan[s].touched >> s & 1 == 0 { 1u64 << s } else { 0 };
+        let mut lowest = [MOST_BLOCKS; 2];
+        for way in 0..2 {
+            if plan[s].denied[way] >> s & 1 == 1 {
+                lowest[way] = s;
+            }
+        }
+        for b in (0..s).rev() {
+            let block = &blocks[b];
+            let jumps = clean >> block.jump & 1 == 1;
+            let falls = block.ending >= 2 && clean >> block.fall & 1 == 1;
+            if !jumps && !falls {
+                continue;
+            }
+            for way in 0..2 {
+                let assigned = plan[b].denied[way] >> s & 1 == 1;
+                let by_jump = jumps && plan[b].against[0][way] >> s & 1 == 1;
+                let by_fall = falls && plan[b].against[1][way] >> s & 1 == 1;
+                if assigned || by_jump || by_fall {
+                    lowest[way] = b;
+                }
+            }
+            if plan[b].touched >> s & 1 == 0 {
+                clean |= 1 << b;
+            }
+        }
+        for way in 0..2 {
+            for above in &mut plan[(lowest[way] + 1).min(MOST_BLOCKS)..] {
+                above.listed[way] |= 1 << s;
+            }
+        }
+    }
+    plan
+}
+
+/// The row under construction.
+struct Row {
+    entries: [Entry; ROW],
+    held: usize,
+}
+
+impl Row {
+    /// Puts an entry in its place, or keeps the better one of its key. False where it would be the 65th.
+    fn insert(&mut self, entry: Entry) -> bool {
+        let place = self.entries[..self.held].partition_point(|e| (e.jumps, e.falls) < (entry.jumps, entry.falls));
+        if place < self.held {
+            let there = &mut self.entries[place];
+            if (there.jumps, there.falls) == (entry.jumps, entry.falls) {
+                let differ = there.jumped ^ entry.jumped;
+                let first = entry.jumped & differ & differ.wrapping_neg() != 0;
+                if entry.weight > there.weight || (entry.weight == there.weight && first) {
+                    *there = entry;
+                }
+                return true;
+            }
+        }
+        if self.held == ROW {
+            return false;
+        }
+        self.entries.copy_within(place..self.held, place + 1);
+        self.entries[place] = entry;
+        self.held += 1;
+        true
+    }
+}
+
+pub fn sweep(form: &[u8], table: &mut [Entry], route: &mut [u8]) -> Result<Swept, Refusal> {
+    let body = read(form)?;
+    let iterations = count(body.initial, body.step, body.relation, body.limit);
+    if iterations == 0 {
+        return refuse(20, 0);
+    }
+    let block_count = body.block_count;
+    if route.len() < block_count {
+        return refuse(42, block_count);
+    }
+    if table.len() < ROW * block_count {
+        return refuse(44, ROW * block_count);
+    }
+    let plan = plan_of(&body);
+    let mut lengths = [0usize; MOST_BLOCKS];
+    for b in (0..block_count).rev() {
+        let (block, plan) = (&body.blocks[b], &plan[b]);
+        let mut row = Row { entries: [Entry::default(); ROW], held: 0 };
+        if block.ending == 0 {
+            row.insert(Entry { weight: block.cost as u64, ..Entry::default() });
+        }
+        let ways = [(block.ending >= 1, block.jump as usize), (block.ending >= 2, block.fall as usize)];
+        for (way, (has, target)) in ways.into_iter().enumerate() {
+            if !has {
+                continue;
+            }
+            let own = if block.ending == 3 { 1u64 << b } else { 0 };
+            let (own_jump, own_fall) = if way == 0 { (own, 0) } else { (0, own) };
+            let (left_jump, left_fall) = if way == 0 { (1u64 << b, 0) } else { (0, 1u64 << b) };
+            let live = [plan.listed[0] & !plan.touched, plan.listed[1] & !plan.touched];
+            for entry in &table[ROW * target..ROW * target + lengths[target]] {
+                let (jumps, falls) = (entry.jumps | own_jump, entry.falls | own_fall);
+                let hit = (entry.jumps & plan.against[way][0])
+                    | (entry.falls & plan.against[way][1])
+                    | (jumps & plan.denied[0])
+                    | (falls & plan.denied[1]);
+                if hit != 0 {
+                    continue;
+                }
+                let put = row.insert(Entry {
+                    jumps: jumps & live[0],
+                    falls: falls & live[1],
+                    weight: entry.weight + block.cost as u64,
+                    jumped: entry.jumped | left_jump,
+                    fallen: entry.fallen | left_fall,
+                });
+                if !put {
+                    return refuse(40, b);
+                }
+            }
+        }
+        table[ROW * b..ROW * (b + 1)].copy_from_slice(&row.entries);
+        lengths[b] = row.held;
+    }
+    if lengths[0] == 0 {
+        return refuse(43, 0);
+    }
+    let best = table[0];
+    for (b, byte) in route[..block_count].iter_mut().enumerate() {
+        *byte = (best.jumped >> b & 1) as u8 + 2 * (best.fallen >> b & 1) as u8;
+    }
+    route[block_count - 1] = 3;
+    let kept = lengths.into_iter().max().unwrap_or(0) as u64;
+    Ok(Swept { iterations, weight: best.weight, bound: iterations * best.weight, kept })
+}

@@ -1,0 +1,47 @@
+-- `listing::conflicts` meets its contract.
+use mathlib.Core.Path.{refl}
+use Rattle.listing.specs.Answered.{read-sound, listed-as, refused-as}
+use borrow.Author.Needs.{needs}
+use Rattle.listing.proofs.conflicts.Statement.{statement}
+use Rattle.listing.proofs.conflicts.Tie as tie
+
+read-requires : tie.Need-read-requires
+read-requires c κs = search needs
+
+enum-known-verdict : tie.Need-enum-known-verdict
+enum-known-verdict c = search needs
+
+enum-told : tie.Need-enum-told
+enum-told c = search needs
+
+list-of-requires : tie.Need-list-of-requires
+list-of-requires c κs =
+    let read = c .before .before .before .before in
+    read-sound (read .before .before .before .args .form .now) _ (read .read .ensures) (c .before .before .enum-told .given .1)
+
+returns : tie.Need-returns
+returns c =
+    let read = c .before .before .before in
+    (refused-as (read .before .before .before .args .form .now) _ (read .read .ensures) _ _ _ (c .before .verdict .given .1), refl)
+
+same-length : tie.Need-same-length
+same-length c = search needs
+
+returns-2 : tie.Need-returns-2
+returns-2 c =
+    let listed = c .before .before in
+    let read = listed .before .before .before .before .before in
+    let start = read .before .before .before in
+    listed-as (start .args .form .now) _ (read .read .ensures) (listed .before .before .before .enum-told .given .1) _ _ _ _ (listed .list-of .ensures .0) (listed .list-of .ensures .1)
+
+pub conflicts-spec : {M : Type 1} → statement M
+conflicts-spec =
+    tie.close
+    (tie.spec
+    read-requires
+    enum-known-verdict
+    enum-told
+    list-of-requires
+    returns
+    same-length
+    returns-2)

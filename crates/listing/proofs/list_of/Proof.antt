@@ -1,0 +1,73 @@
+-- `listing::list_of` meets its contract.
+use mathlib.Core.Path.{refl, ap, _∙_}
+use mathlib.Core.List.{List}
+use Prim.Native.Nat.{ℕ, _+_}
+use native.Mathlib.Omega.{arith}
+use lib.ListN.{length}
+use lib.Seq.{sets}
+use Rattle.form.specs.Conflict.{conflictBytes}
+use Rattle.listing.specs.Listing.{number-is, bytes-are, too-few, enough, has-room, from-start}
+use borrow.Author.Needs.{needs}
+use Rattle.listing.proofs.list_of.Statement.{statement}
+use Rattle.listing.proofs.list_of.Tie as tie
+
+find-requires : tie.Need-find-requires
+find-requires c κs = search needs
+
+found-number-requires : tie.Need-found-number-requires
+found-number-requires c κs = search needs
+
+mul-bytes : tie.Need-mul-bytes
+mul-bytes c = search needs
+
+returns : tie.Need-returns
+returns c =
+    let number = c .before in
+    let f = number .before .find .ensures in
+    let start = number .before .before .before in
+    let is = number .found-number .ensures .0 ∙ number-is (start .args .body) (start .pre .few) _ _ _ (f .variables) (f .jumped) (f .fallen) in
+    (too-few (start .args .body) _ _ is (c .if1 .taken), refl)
+
+found-entries-requires : tie.Need-found-entries-requires
+found-entries-requires c κs =
+    let number = c .before .before in
+    let f = number .before .find .ensures in
+    let start = number .before .before .before in
+    let is = number .found-number .ensures .0 ∙ number-is (start .args .body) (start .pre .few) _ _ _ (f .variables) (f .jumped) (f .fallen) in
+    let same = bytes-are (start .args .body) (start .pre .few) _ _ _ (f .variables) (f .jumped) (f .fallen) in (
+      record {
+        variables = f .variables .size;
+        first = (f .jumped .assigned .size, (f .jumped .jumps .size, f .jumped .falls .size));
+        second = (f .fallen .assigned .size, (f .fallen .jumps .size, f .fallen .falls .size));
+      },
+      omega (arith, ap length same, has-room (start .args .body) _ (length (start .args .out .now)) is (c .before .if1 .left)),
+    )
+
+same-length : tie.Need-same-length
+same-length c = search needs
+
+returns-2 : tie.Need-returns-2
+returns-2 c =
+    let wrote = c .before .before in
+    let number = wrote .before .before .before in
+    let f = number .before .find .ensures in
+    let start = number .before .before .before in
+    let body = start .args .body in
+    let is = number .found-number .ensures .0 ∙ number-is body (start .pre .few) _ _ _ (f .variables) (f .jumped) (f .fallen) in
+    let same = bytes-are body (start .pre .few) _ _ _ (f .variables) (f .jumped) (f .fallen) in
+    let out = start .args .out .now in (
+      enough body _ _ is _ (wrote .before .before .if1 .left) (wrote .found-entries .ensures .0 ∙ ap (λ (l : List ℕ). 0 + length l) same),
+      wrote .found-entries .ensures .1 ∙ ap (λ (l : List ℕ). sets out 0 l) same ∙ from-start (conflictBytes body) out (has-room body _ (length out) is (wrote .before .before .if1 .left)),
+    )
+
+pub list-of-spec : {M : Type 1} → statement M
+list-of-spec =
+    tie.close
+    (tie.spec
+    find-requires
+    found-number-requires
+    mul-bytes
+    returns
+    found-entries-requires
+    same-length
+    returns-2)

@@ -1,0 +1,208 @@
+// The conflict list of document 01, read off what the crate conflict finds of a body: its number of entries, and its bytes for any form. The meaning is in
+// specs/Answer.antt and in form's Conflict.
+ghost use mathlib.Core.Path.{_≡_};
+ghost use Prim.Native.Nat.{_+_, _≤_, _<_};
+ghost use lib.ListN.{length};
+ghost use lib.Seq.{sets};
+ghost use lib.Count.{ones};
+ghost use Rattle.form.specs.Form.{bodyOf};
+ghost use Rattle.form.specs.Conflict.{Sound, conflicts, conflictBytes};
+ghost use Rattle.listing.specs.Laying.{entryBytes, wordBytes, edgeBytes};
+ghost use Rattle.listing.specs.Listing.{allBytes, bitsOf, Rows};
+ghost use Rattle.listing.specs.Answer.{listedIn, listing, heldAfter};
+
+// What the conflict list answers: how many bytes it wrote, or the refusal's number and place.
+pub enum Listed {
+    Bytes(usize),
+    Unlisted { number: u32, place: usize },
+}
+
+// An entry's five bytes into `out` at `at`, where there is one; the place after it.
+fn entry(
+    out: &mut [u8],
+    at: usize,
+    on: bool,
+    kind: u8,
+    first: usize,
+    third: u8,
+    second: usize,
+    outcome: u8,
+) -> usize
+    requires { ⌜ ((first < 256) × (second < 256)) × (at + length (entryBytes on kind first third second outcome) ≤ length (now out)) ⌝ }
+    ensures { λ r. ⌜ (r ≡ at + length (entryBytes on kind first third second outcome)) × (now (out .exit) ≡ sets (now (out .entry)) at (entryBytes on kind first third second outcome)) ⌝ }
+{
+    if !on {
+        return at;
+    }
+    out[at] = kind;
+    out[at + 1] = first as u8;
+    out[at + 2] = third;
+    out[at + 3] = second as u8;
+    out[at + 4] = outcome;
+    at + 5
+}
+
+// The entries of one kind of an edge, by the first block: those of a word, and beside each those of another.
+fn entries(
+    out: &mut [u8],
+    start: usize,
+    kind: u8,
+    word: u64,
+    third: u8,
+    other: u64,
+    another: u8,
+    second: usize,
+    outcome: u8,
+) -> usize
+    requires { ⌜ (second < 256) × (start + length (wordBytes kind word third other another second outcome) ≤ length (now out)) ⌝ }
+    ensures { λ r. ⌜ (r ≡ start + length (wordBytes kind word third other another second outcome)) × (now (out .exit) ≡ sets (now (out .entry)) start (wordBytes kind word third other another second outcome)) ⌝ }
+{
+    let mut at = start;
+    let mut f = 0;
+    while f < 64 {
+        let one = words::has(word, f);
+        let two = words::has(other, f);
+        let next = entry(out, at, one, kind, f, third, second, outcome);
+        at = entry(out, next, two, kind, f, another, second, outcome);
+        f += 1;
+    }
+    at
+}
+
+// The entries of an edge: its assignments, then its edges.
+fn edge_entries(
+    out: &mut [u8],
+    at: usize,
+    assigned: u64,
+    jump: u64,
+    fall: u64,
+    variable: u8,
+    second: usize,
+    outcome: u8,
+) -> usize
+    requires { ⌜ (second < 256) × (at + length (edgeBytes assigned jump fall variable second outcome) ≤ length (now out)) ⌝ }
+    ensures { λ r. ⌜ (r ≡ at + length (edgeBytes assigned jump fall variable second outcome)) × (now (out .exit) ≡ sets (now (out .entry)) at (edgeBytes assigned jump fall variable second outcome)) ⌝ }
+{
+    let next = entries(out, at, 1, assigned, variable, 0, 0, second, outcome);
+    entries(out, next, 2, jump, 1, fall, 2, second, outcome)
+}
+
+fn ones(x: u64) -> usize
+    ensures { λ r. ⌜ (r ≡ ones x) × (r ≤ 64) ⌝ }
+{
+    u64::count_ones(x) as usize
+}
+
+// How many bits three rows of words have.
+fn number_of(a: &[u64], j: &[u64], f: &[u64]) -> usize
+    requires { ⌜ (length (now a) ≡ 64) × ((length (now j) ≡ 64) × (length (now f) ≡ 64)) ⌝ }
+    ensures { λ r. ⌜ (r ≡ bitsOf (now (a .entry)) (now (j .entry)) (now (f .entry))) × (r ≤ 12288) ⌝ }
+{
+    let mut n = 0;
+    let mut s = 0;
+    while s < 64 {
+        n += ones(a[s]) + (ones(j[s]) + ones(f[s]));
+        s += 1;
+    }
+    n
+}
+
+// The whole list, block by block.
+fn all_entries(
+    out: &mut [u8],
+    variable: &[u8],
+    a1: &[u64],
+    j1: &[u64],
+    f1: &[u64],
+    a2: &[u64],
+    j2: &[u64],
+    f2: &[u64],
+) -> usize
+    requires { ⌜ Rows (now variable) (now a1) (now j1) (now f1) (now a2) (now j2) (now f2) × (0 + length (allBytes (now variable) (now a1) (now j1) (now f1) (now a2) (now j2) (now f2)) ≤ length (now out)) ⌝ }
+    ensures { λ r. ⌜ (r ≡ 0 + length (allBytes (now (variable .entry)) (now (a1 .entry)) (now (j1 .entry)) (now (f1 .entry)) (now (a2 .entry)) (now (j2 .entry)) (now (f2 .entry)))) × (now (out .exit) ≡ sets (now (out .entry)) 0 (allBytes (now (variable .entry)) (now (a1 .entry)) (now (j1 .entry)) (now (f1 .entry)) (now (a2 .entry)) (now (j2 .entry)) (now (f2 .entry)))) ⌝ }
+{
+    let mut at = 0;
+    let mut s = 0;
+    while s < 64 {
+        let v = variable[s];
+        let next = edge_entries(out, at, a1[s], j1[s], f1[s], v, s, 1);
+        at = edge_entries(out, next, a2[s], j2[s], f2[s], v, s, 2);
+        s += 1;
+    }
+    at
+}
+
+fn firsts_number(p: conflict::Firsts) -> usize
+    requires { ⌜ (length (p .assigned) ≡ 64) × ((length (p .jump) ≡ 64) × (length (p .fall) ≡ 64)) ⌝ }
+    ensures { λ r. ⌜ (r ≡ bitsOf (p .assigned) (p .jump) (p .fall)) × (r ≤ 12288) ⌝ }
+{
+    let a = p.assigned;
+    let j = p.jump;
+    let f = p.fall;
+    number_of(&a, &j, &f)
+}
+
+fn found_number(f: conflict::Found) -> usize
+    requires { ⌜ Rows (f .variable) (f .jumped .assigned) (f .jumped .jump) (f .jumped .fall) (f .fallen .assigned) (f .fallen .jump) (f .fallen .fall) ⌝ }
+    ensures { λ r. ⌜ (r ≡ bitsOf (f .jumped .assigned) (f .jumped .jump) (f .jumped .fall) + bitsOf (f .fallen .assigned) (f .fallen .jump) (f .fallen .fall)) × (r ≤ 24576) ⌝ }
+{
+    let p = f.jumped;
+    let q = f.fallen;
+    firsts_number(p) + firsts_number(q)
+}
+
+fn found_entries(out: &mut [u8], f: conflict::Found) -> usize
+    requires { ⌜ Rows (f .variable) (f .jumped .assigned) (f .jumped .jump) (f .jumped .fall) (f .fallen .assigned) (f .fallen .jump) (f .fallen .fall) × (0 + length (allBytes (f .variable) (f .jumped .assigned) (f .jumped .jump) (f .jumped .fall) (f .fallen .assigned) (f .fallen .jump) (f .fallen .fall)) ≤ length (now out)) ⌝ }
+    ensures { λ r. ⌜ (r ≡ 0 + length (allBytes (f .variable) (f .jumped .assigned) (f .jumped .jump) (f .jumped .fall) (f .fallen .assigned) (f .fallen .jump) (f .fallen .fall))) × (now (out .exit) ≡ sets (now (out .entry)) 0 (allBytes (f .variable) (f .jumped .assigned) (f .jumped .jump) (f .jumped .fall) (f .fallen .assigned) (f .fallen .jump) (f .fallen .fall))) ⌝ }
+{
+    let variable = f.variable;
+    let p = f.jumped;
+    let q = f.fallen;
+    let a1 = p.assigned;
+    let j1 = p.jump;
+    let f1 = p.fall;
+    let a2 = q.assigned;
+    let j2 = q.jump;
+    let f2 = q.fall;
+    all_entries(out, &variable, &a1, &j1, &f1, &a2, &j2, &f2)
+}
+
+// How many entries the conflict list of a body has.
+pub fn entries_of(body: form::Body) -> usize
+    requires { ⌜ Sound body ⌝ }
+    ensures { λ r. ⌜ (r ≡ length (conflicts body)) × (r ≤ 24576) ⌝ }
+{
+    let f = conflict::find(body);
+    found_number(f)
+}
+
+fn list_of(body: form::Body, out: &mut [u8]) -> Listed
+    requires { ⌜ Sound body ⌝ }
+    ensures { λ r. ⌜ (r ≡ listedIn body (length (now (out .entry)))) × (now (out .exit) ≡ heldAfter r (conflictBytes body) (now (out .entry))) ⌝ }
+{
+    let f = conflict::find(body);
+    let bytes = 5 * found_number(f);
+    if out.len() < bytes {
+        return Listed::Unlisted {
+            number: 42,
+            place: bytes,
+        };
+    }
+    let end = found_entries(out, f);
+    Listed::Bytes(end)
+}
+
+// The conflict list, for any bytes: 10 to 19, then 42 with the bytes needed, else the list's bytes into `out`.
+pub fn conflicts(form: &[u8], out: &mut [u8]) -> Listed
+    ensures { λ r. ⌜ (r ≡ listing (now (form .entry)) (length (now (out .entry)))) × (now (out .exit) ≡ heldAfter r (conflictBytes (bodyOf (now (form .entry)))) (now (out .entry))) ⌝ }
+{
+    let reading = form::read(form);
+    let verdict = reading.verdict;
+    match verdict {
+        form::Verdict::Refused { number, place } => Listed::Unlisted { number, place },
+        form::Verdict::Accepted => {
+            let body = reading.body;
+            list_of(body, out)
+        }
+    }
+}
