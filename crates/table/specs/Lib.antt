@@ -4,3 +4,4 @@ pub mod Stored
 pub mod Words
 pub mod Swept
 pub mod Promise
+pub mod Uniqueness
