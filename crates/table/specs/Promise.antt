@@ -141,7 +141,7 @@ same-room n c h = by (ltb n (64 * c)) refl
 
 -- ---- what is handed over
 
-module _ (form route held : List ℕ) (lent : List Entry) (made : Swept) (w : SweptWords form (length lent) route held made) where
+module _ (form route left held : List ℕ) (lent : List Entry) (made : Swept) (w : SweptWords form (length lent) route left held made) where
   abbrev answer : SweepAnswer
   answer = made .answer
 
@@ -149,11 +149,11 @@ module _ (form route held : List ℕ) (lent : List Entry) (made : Swept) (w : Sw
   count = bodyOf form .count
 
   -- the first words, as the flat sweep left them, and the table with what is stored
-  abbrev left : List ℕ
-  left = take (lentWords (length lent)) (made .words)
+  abbrev first-words : List ℕ
+  first-words = take (lentWords (length lent)) left
 
   abbrev after : List Entry
-  after = stored lent (made .words) (made .from) (made .entries)
+  after = stored lent left (made .from) (made .entries)
 
   abbrev Fits : Type 0
   Fits = made .from + made .entries ≤ length lent
@@ -165,12 +165,12 @@ module _ (form route held : List ℕ) (lent : List Entry) (made : Swept) (w : Sw
 
     none-stored : after ≡ lent
     unfolding stored
-    none-stored = ap (stored lent (made .words) (made .from)) entries-none
+    none-stored = ap (stored lent left (made .from)) entries-none
 
-    refused-outcome : (number place : ℕ) → routes.outcomeOf answer held left ≡ routes.refused route (w .lent) number place → outcomeOf answer held after ≡ refused route lent number place
+    refused-outcome : (number place : ℕ) → routes.outcomeOf answer held first-words ≡ routes.refused route (w .lent) number place → outcomeOf answer held after ≡ refused route lent number place
     refused-outcome number place e = λ i. record { values = e i .values; route = e i .route; table = none-stored i }
 
-  pub words-enough : 5 * (made .from + made .entries) ≤ length (made .words)
+  pub words-enough : 5 * (made .from + made .entries) ≤ length left
   words-enough = omega (arith, w .from-is, w .entries-is, rows-within answer (blocks form), few-blocks form, w .size)
 
   -- a form that is refused has no block
@@ -203,10 +203,10 @@ module _ (form route held : List ℕ) (lent : List Entry) (made : Swept) (w : Sw
         rows-fit : Fits
         rows-fit = omega (arith, from-is, entries-is, all, room)
 
-        rows-stored : left ≡ flat.tableWith (rowsOf (bodyOf form)) first count (w .lent) → after ≡ tableWith (rowsOf (bodyOf form)) first count lent
+        rows-stored : first-words ≡ flat.tableWith (rowsOf (bodyOf form)) first count (w .lent) → after ≡ tableWith (rowsOf (bodyOf form)) first count lent
         rows-stored e =
-            ap₂ (stored lent (made .words)) from-is (entries-is ∙ ap (λ m. 64 * m) rest)
-            ∙ stored-rows (rowsOf (bodyOf form)) first count lent (made .words) (w .lent) (lentWords (length lent)) e (omega (arith, all)) room enough (omega (arith, enough, w .lent-size))
+            ap₂ (stored lent left) from-is (entries-is ∙ ap (λ m. 64 * m) rest)
+            ∙ stored-rows (rowsOf (bodyOf form)) first count lent left (w .lent) (lentWords (length lent)) e (omega (arith, all)) room enough (omega (arith, enough, w .lent-size))
           where
             rest : n ≡ count - first
             rest = omega (arith, all)
@@ -215,7 +215,7 @@ module _ (form route held : List ℕ) (lent : List Entry) (made : Swept) (w : Sw
             enough = omega (arith, room, few)
 
     -- with a refusal that leaves none
-    module _ (number place : ℕ) (e : routes.outcomeOf answer held left ≡ routes.refused route (w .lent) number place) (rows-none : rowsFor (Refused number place) count ≡ record { first = 0; count = 0 }) (d : number ≡ 0 → ⊥) where
+    module _ (number place : ℕ) (e : routes.outcomeOf answer held first-words ≡ routes.refused route (w .lent) number place) (rows-none : rowsFor (Refused number place) count ≡ record { first = 0; count = 0 }) (d : number ≡ 0 → ⊥) where
       no-rows : rowsFor answer count ≡ record { first = 0; count = 0 }
       no-rows = ap (λ x. rowsFor x count) (answer-refused answer number place (ap (λ (x : routes.Outcome). x .values) e) d) ∙ rows-none
 
@@ -223,11 +223,11 @@ module _ (form route held : List ℕ) (lent : List Entry) (made : Swept) (w : Sw
       refused-kept = (none-fits (from-is 0 0 no-rows) (entries-is 0 0 no-rows), refused-outcome (from-is 0 0 no-rows) (entries-is 0 0 no-rows) number place e)
 
     abbrev Done : routes.Outcome → Outcome → Type 0
-    Done x y = routes.outcomeOf answer held left ≡ x → Fits × (outcomeOf answer held after ≡ y)
+    Done x y = routes.outcomeOf answer held first-words ≡ x → Fits × (outcomeOf answer held after ≡ y)
 
     module _ (room : 64 * count ≤ length lent) where
       -- all rows
-      all-done : (x : routes.Outcome) (y : Outcome) → (routes.outcomeOf answer held left ≡ x → rowsFor answer count ≡ record { first = 0; count = count })
+      all-done : (x : routes.Outcome) (y : Outcome) → (routes.outcomeOf answer held first-words ≡ x → rowsFor answer count ≡ record { first = 0; count = count })
           → x .values ≡ y .values → x .route ≡ y .route → x .table ≡ flat.tableWith (rowsOf (bodyOf form)) 0 count (w .lent) → y .table ≡ tableWith (rowsOf (bodyOf form)) 0 count lent → Done x y
       all-done x y rows values bytes flat-table table e = (
         rows-fit 0 count (rows e) (omega arith) room,
@@ -277,7 +277,7 @@ module _ (form route held : List ℕ) (lent : List Entry) (made : Swept) (w : Sw
           (e ∙ ap (λ t. cond (ltb (length route) count) (routes.refused route (w .lent) 42 count)
           (cond t (routes.refused route (w .lent) 44 (64 * count)) (routes.swept (bodyOf form) route (w .lent) k (crowded (bodyOf form) (stepCost (bodyOf form)) heavier)))) flat-test)
 
-  done : routes.SweepOwed form route (w .lent) (routes.outcomeOf answer held left) → Fits × TableOwed form route lent (outcomeOf answer held after)
+  done : routes.SweepOwed form route (w .lent) (routes.outcomeOf answer held first-words) → Fits × TableOwed form route lent (outcomeOf answer held after)
   done (no-form n p j e) = (none-fits (unread-from n p j) (unread-entries n p j), no-form n p j (refused-outcome (unread-from n p j) (unread-entries n p j) n p e))
   done (no-count a never e) = let (fits, same) = refused-kept a 20 0 e refl (λ z. omega (arith, z)) in (fits, no-count a never same)
   done (counted a k c e) = let (fits, same) = counted-done a k c e in (fits, counted a k c same)
@@ -285,5 +285,5 @@ module _ (form route held : List ℕ) (lent : List Entry) (made : Swept) (w : Sw
   pub room-enough : made .from + made .entries ≤ length lent
   room-enough = done (w .owed) .0
 
-  pub table-owed : TableOwed form route lent (outcomeOf (made .answer) held (stored lent (made .words) (made .from) (made .entries)))
+  pub table-owed : TableOwed form route lent (outcomeOf (made .answer) held (stored lent left (made .from) (made .entries)))
   table-owed = done (w .owed) .1

@@ -78,12 +78,12 @@ rows-within (Refused number place) count = by (eqb number 43) (eqb number 40) (l
     by false true false e = omega arith
     by false false c e = omega arith
 
--- the flat sweep's promise over some words, and the complete rows' entries
-pub record SweptWords (form : List ℕ) (room : ℕ) (route held : List ℕ) (swept : Swept) : Type 0 where
+-- the flat sweep's promise over the first words, from what stood there before; and the complete rows' entries
+pub record SweptWords (form : List ℕ) (room : ℕ) (route words held : List ℕ) (swept : Swept) : Type 0 where
   pub lent : List ℕ
   pub lent-size : length lent ≡ lentWords room
-  pub owed : flat.SweepOwed form route lent (flat.outcomeOf (swept .answer) held (take (lentWords room) (swept .words)))
-  pub size : length (swept .words) ≡ 20480
+  pub owed : flat.SweepOwed form route lent (flat.outcomeOf (swept .answer) held (take (lentWords room) words))
+  pub size : length words ≡ 20480
   pub from-is : swept .from ≡ 64 * rowsFor (swept .answer) (blocks form) .first
   pub entries-is : swept .entries ≡ 64 * rowsFor (swept .answer) (blocks form) .count
 
@@ -96,7 +96,7 @@ module _ (form : List ℕ) (answer : SweepAnswer) (n : ℕ) (n-is : n ≡ blocks
   module _ (route held words after : List ℕ) (room k : ℕ) (size : length words ≡ 20480) (k-is : k ≡ min room 4096) where
     -- the words that were lent, as the flat sweep left them, and the others
     pub swept-words : flat.SweepOwed form route (take (5 * k) words) (flat.outcomeOf answer held after) → length after ≡ length (take (5 * k) words)
-        → SweptWords form room route held (record { answer = answer; from = 64 * rows .first; entries = 64 * rows .count; words = after ++ drop (5 * k) words })
+        → SweptWords form room route (after ++ drop (5 * k) words) held (record { answer = answer; from = 64 * rows .first; entries = 64 * rows .count })
     swept-words owed l =
         let end : 5 * k ≡ lentWords room = ap (λ m. 5 * m) k-is in
         let rows-are : rows ≡ rowsFor answer (blocks form) = rows-is ∙ ap (rowsFor answer) n-is in

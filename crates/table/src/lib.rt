@@ -55,11 +55,11 @@ fn lesser(a: usize, b: usize) -> usize
     if a < b { a } else { b }
 }
 
+// What the flat sweep came to: the answer, and how many of the words' entries go to the table, from which entry on.
 struct Swept {
     answer: SweepAnswer,
     from: usize,
     entries: usize,
-    words: [u64; 20480],
 }
 
 // How many blocks the form has; none where it is refused.
@@ -71,14 +71,11 @@ fn blocks_of(form: &[u8]) -> usize
     body.count
 }
 
-fn no_words() -> [u64; 20480] {
-    [0; 20480]
-}
-
-fn sweep_words(form: &[u8], room: usize, route: &mut [u8]) -> Swept
-    ensures { λ r. ⌜ SweptWords (now (form .entry)) room (now (route .entry)) (now (route .exit)) r ⌝ }
+// The flat sweep, over as many words as the lent table has entries for, or as 64 blocks need.
+fn sweep_words(form: &[u8], room: usize, words: &mut [u64], route: &mut [u8]) -> Swept
+    requires { ⌜ length (now words) ≡ 20480 ⌝ }
+    ensures { λ r. ⌜ SweptWords (now (form .entry)) room (now (route .entry)) (now (words .exit)) (now (route .exit)) r ⌝ }
 {
-    let mut words = no_words();
     let end = 5 * lesser(room, 4096);
     let answer = routes::sweep::sweep(form, &mut words[..end], route);
     let rows = rows_of(answer, blocks_of(form));
@@ -86,7 +83,6 @@ fn sweep_words(form: &[u8], room: usize, route: &mut [u8]) -> Swept
         answer,
         from: 64 * rows.first,
         entries: 64 * rows.count,
-        words,
     }
 }
 
@@ -120,8 +116,8 @@ fn store(table: &mut [Entry], words: &[u64], from: usize, entries: usize) -> usi
 pub fn sweep(form: &[u8], table: &mut [Entry], route: &mut [u8]) -> SweepAnswer
     ensures { λ r. ⌜ TableOwed (now (form .entry)) (now (route .entry)) (now (table .entry)) (outcomeOf r (now (route .exit)) (now (table .exit))) ⌝ }
 {
-    let swept = sweep_words(form, table.len(), route);
-    let words = swept.words;
+    let mut words = [0; 20480];
+    let swept = sweep_words(form, table.len(), &mut words, route);
     store(table, &words, swept.from, swept.entries);
     swept.answer
 }
