@@ -1,4 +1,6 @@
-// The sweep over a lent table of entries.
+// The sweep over a lent table of entries, as document 01 has it: an entry is a struct, row b stands from entry 64 b on. Thin: the flat sweep of routes fills
+// words of this crate's own, and the entries of the rows that are complete are stored. `store` and `sweep` have a slice of structs and are proved by a walk
+// of their code by hand; the others are covered. What is owed is in specs/Answer.antt.
 ghost use mathlib.Core.Path.{_≡_};
 ghost use Prim.Native.Nat.{min, _+_, _*_, _≤_};
 ghost use lib.ListN.{length};
@@ -7,6 +9,7 @@ ghost use Rattle.table.specs.Stored.{entryAt, stored};
 ghost use Rattle.table.specs.Swept.{blocks, rowsFor, SweptWords};
 use routes::sweep::SweepAnswer;
 
+// Jump set, fall set, weight of the heaviest such tail, and of the first of those the blocks left by jump or go and the blocks left by fall.
 #[repr(C)]
 pub struct Entry {
     pub jumps: u64,
@@ -16,12 +19,13 @@ pub struct Entry {
     pub fallen: u64,
 }
 
-// Rows that are complete: those of so many blocks, from a block on.
+// The rows that are complete: those of `count` blocks, from block `first` on.
 struct Rows {
     first: usize,
     count: usize,
 }
 
+// With a route, and with 43, all rows; with 40 those above the crowded block; with any other refusal none.
 fn rows_of(answer: SweepAnswer, count: usize) -> Rows
     ensures { λ r. ⌜ r ≡ rowsFor answer count ⌝ }
 {
@@ -38,9 +42,10 @@ fn rows_of(answer: SweepAnswer, count: usize) -> Rows
             }
             if number == 40 {
                 if place < count {
+                    let first = place + 1;
                     return Rows {
-                        first: place + 1,
-                        count: count - (place + 1),
+                        first,
+                        count: count - first,
                     };
                 }
             }
@@ -49,13 +54,14 @@ fn rows_of(answer: SweepAnswer, count: usize) -> Rows
     }
 }
 
+// The lesser.
 fn lesser(a: usize, b: usize) -> usize
     ensures { λ r. ⌜ r ≡ min a b ⌝ }
 {
     if a < b { a } else { b }
 }
 
-// What the flat sweep came to: the answer, and how many of the words' entries go to the table, from which entry on.
+// What the flat sweep came to: the answer, and which of the words' entries are the complete rows': `entries` of them, from entry `from` on.
 struct Swept {
     answer: SweepAnswer,
     from: usize,
@@ -71,7 +77,7 @@ fn blocks_of(form: &[u8]) -> usize
     body.count
 }
 
-// The flat sweep, over as many words as the lent table has entries for, or as 64 blocks need.
+// The flat sweep, over the words of as many entries as the lent table has room for; 64 blocks need no more than 4,096.
 fn sweep_words(form: &[u8], room: usize, words: &mut [u64], route: &mut [u8]) -> Swept
     requires { ⌜ length (now words) ≡ 20480 ⌝ }
     ensures { λ r. ⌜ SweptWords (now (form .entry)) room (now (route .entry)) (now (words .exit)) (now (route .exit)) r ⌝ }
@@ -86,6 +92,7 @@ fn sweep_words(form: &[u8], room: usize, words: &mut [u64], route: &mut [u8]) ->
     }
 }
 
+// Entry i of the words.
 fn entry_of(words: &[u64], i: usize) -> Entry
     requires { ⌜ 5 * i + 5 ≤ length (now words) ⌝ }
     ensures { λ r. ⌜ r ≡ entryAt (now (words .entry)) i ⌝ }
@@ -100,6 +107,7 @@ fn entry_of(words: &[u64], i: usize) -> Entry
     }
 }
 
+// The words' entries into the table's, `entries` of them from entry `from` on; how many were stored.
 fn store(table: &mut [Entry], words: &[u64], from: usize, entries: usize) -> usize
     requires { ⌜ (from + entries ≤ length (now table)) × (5 * (from + entries) ≤ length (now words)) ⌝ }
     ensures { λ r. ⌜ now (table .exit) ≡ stored (now (table .entry)) (now (words .entry)) from entries ⌝ }
@@ -113,6 +121,8 @@ fn store(table: &mut [Entry], words: &[u64], from: usize, entries: usize) -> usi
     k
 }
 
+// The sweep, for any bytes: the loop count, the first heaviest conflict-free route with its bytes, count times weight, and the longest row, with all rows in the
+// table; or a refusal.
 pub fn sweep(form: &[u8], table: &mut [Entry], route: &mut [u8]) -> SweepAnswer
     ensures { λ r. ⌜ TableOwed (now (form .entry)) (now (route .entry)) (now (table .entry)) (outcomeOf r (now (route .exit)) (now (table .exit))) ⌝ }
 {

@@ -35,4 +35,4 @@ returns-5 c =
 
 pub rows-of-spec : {M : Type 1} → statement M
 rows-of-spec =
-    tie.close (tie.spec (λ c. search needs) (λ c. search needs) returns (λ c. search needs) (λ c. search needs) (λ c. search needs) returns-2 returns-3 returns-4 returns-5)
+    tie.close (tie.spec (λ c. search needs) (λ c. search needs) returns (λ c. search needs) (λ c. search needs) returns-2 returns-3 returns-4 returns-5)
