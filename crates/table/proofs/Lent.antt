@@ -3,6 +3,7 @@
 --     zeros-out      the array with `[0; n]` in it  ⊢  ∃ xs. ⌜length xs ≡ n⌝ ∗ the words xs, side by side in memory.        The list is hidden: as n zeros it would be computed with
 --     lends-words    the words in memory  ⊢ ⇛ ∃ γ. own (the `&κ [u64]` ((b, 0), γ, xs)) ∗ words-lent.        As a `&κ mut [u64]` they are lent by `denote.Lend`'s `lends-slice`, and come back by `slice-back`
 --     array-back     [†κ] ∗ words-lent  ⊢ ⇛ ∃ v. the array's local, full again, with v in it
+--     words-at, words-val      the slice of the words xs in the local at b: its value under a name, and its machine value
 --     big-lit        the operand that is a count which the code writes with a proof that it fits
 -- Rests on `denote.Lend` and `denote.ArrayMemory`; assumes `Given`.
 use mathlib.Core.Path.{_≡_, refl, sym}
@@ -73,13 +74,13 @@ module _ {M : Type 1} (𝓤 : URA M) (H : Heap 𝓤) (A : Atoms 𝓤) (W : Given
 
 -- ---- the words xs, lent as a `&κ [u64]`
 
+abbrev pub words-at : List ℕ → ℕ → GName → RefT (List ℕ)
+words-at xs b γ = record { ptr = (b, 0); name = γ; now = xs }
+
+abbrev pub words-val : List ℕ → ℕ → Val
+words-val xs b = sliceVal (b, 0) (length xs)
+
 module _ (κ : Lft) (xs : List ℕ) (b : ℕ) where
-  abbrev pub words-at : GName → RefT (List ℕ)
-  words-at γ = record { ptr = (b, 0); name = γ; now = xs }
-
-  abbrev pub words-val : Val
-  words-val = sliceVal (b, 0) (length xs)
-
   abbrev apart : ℕ → Fml
   apart m = arr-parts (shares u64) m .part fullShare xs b 0
 
@@ -88,7 +89,7 @@ module _ (κ : Lft) (xs : List ℕ) (b : ℕ) where
 
   module _ {M : Type 1} (𝓤 : URA M) (H : Heap 𝓤) (A : Atoms 𝓤) (W : Given 𝓤 H A) where
     pub lends-words : (ℓ : Lifetime) → Room u64 (length xs)
-        → ent 𝓤 (sem 𝓤 H A (cells (mem u64) xs b 0)) (H .⇛ (ex 𝓤 (λ (γ : GName). sep 𝓤 (sem 𝓤 H A (ShrSlice ℓ κ u64 .own (words-at γ) (words-val ∷ []))) (sem 𝓤 H A words-lent))))
+        → ent 𝓤 (sem 𝓤 H A (cells (mem u64) xs b 0)) (H .⇛ (ex 𝓤 (λ (γ : GName). sep 𝓤 (sem 𝓤 H A (ShrSlice ℓ κ u64 .own (words-at xs b γ) (words-val xs b ∷ []))) (sem 𝓤 H A words-lent))))
     lends-words ℓ room =
         qed W (‵ (cells (mem u64) xs b 0) ∷ []) ∵ rewrite ! 0 (λ (F : Fml). ‵ F) (sym (parts-cells u64 fullShare xs b 0)) refl $
         feqI ! ℕ (length xs) (length xs) refl $ fjoin ! $ by ! (lends-shr-slice 𝓤 H A W u64 ℓ κ fullShare xs b 0 room)

@@ -1,7 +1,7 @@
 -- From what the covered part hands over to what the sweep owes: where the answer leaves rows complete, their entries are stored, and else none. Rests on Swept and Words.
 use mathlib.Core.Path.{_≡_, refl, sym, ap, ap₂, subst, _∙_}
 use mathlib.Core.Bool.{Bool, true, false, cond}
-use mathlib.Core.List.{List, [], _∷_, _++_, map, append-assoc}
+use mathlib.Core.List.{List, _++_, map, append-assoc}
 use mathlib.Core.Option.{Option, none, some, Option·none-ne-some}
 use Prim.Native.Nat.{ℕ, zero, suc, min, _+_, _*_, _-_, _<_, _≤_}
 use native.Mathlib.Omega.{arith}
@@ -9,8 +9,7 @@ use lib.Dec.{ltb}
 use lib.ListN.{length, getD, take, drop, set, replicate, length-append, length-replicate, length-map, List·getD-append}
 use lib.Seq.{paste, paste-zero, paste-suc, take-all, length-take-le, getD-take, getD-append-add}
 use borrow.Author.Tests.{ltb-true, ltb-false, lt-ltb, le-ltb}
-use Rattle.laws.specs.Terms.{each, range, heavier}
-use Rattle.form.specs.declared.Body.{Body}
+use Rattle.laws.specs.Terms.{heavier}
 use Rattle.form.specs.declared.Verdict.{Verdict}
 use Rattle.form.specs.declared.Verdict.the-variants.{Accepted, Refused as Unread}
 use Rattle.form.specs.Form.{when, judge, bodyOf, zeroBody}
@@ -30,7 +29,7 @@ use Rattle.table.specs.declared.Rows.{Rows}
 use Rattle.table.specs.declared.Swept.{Swept}
 use Rattle.table.specs.Answer.{entryFrom, tableWith, Outcome, outcomeOf, refused, routed, swept, sweepOutcome, TableOwed}
 use Rattle.table.specs.Stored.{noEntry, entryAt, stored}
-use Rattle.table.specs.Words.{words, words-at, words-length, rowsFrom, rows-words, under}
+use Rattle.table.specs.Words.{words, words-at, words-length, rowsFrom, rows-words}
 use Rattle.table.specs.Swept.{blocks, few-blocks, rowsFor, rows-within, lentWords, SweptWords}
 
 -- ---- what is stored

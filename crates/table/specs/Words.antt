@@ -4,7 +4,7 @@ use mathlib.Core.Path.{_≡_, refl, sym, ap, ap₂, _∙_}
 use mathlib.Core.Bool.{Bool, true, false, cond}
 use mathlib.Core.List.{List, [], _∷_, _++_, map}
 use mathlib.Core.Option.{Option, none, some}
-use Prim.Native.Nat.{ℕ, zero, suc, _+_, _*_, _-_, _<_, _≤_}
+use Prim.Native.Nat.{ℕ, zero, suc, _+_, _*_, _-_}
 use native.Mathlib.Omega.{arith}
 use lib.Dec.{ltb}
 use lib.ListN.{length, getD, take, drop}
@@ -103,6 +103,14 @@ module _ (rows : ℕ → List theory.Entry) where
 
 -- ---- the outcome
 
+-- a table under 64 entries a block has under five times as many words
+under : (n m : ℕ) → ltb n m ≡ ltb (5 * n) (5 * m)
+under n m = by (ltb n m) refl
+  where
+    by : (t : Bool) → ltb n m ≡ t → t ≡ ltb (5 * n) (5 * m)
+    by true e = sym (lt-ltb (5 * n) (5 * m) (omega (arith, ltb-true n m e)))
+    by false e = sym (le-ltb (5 * n) (5 * m) (omega (arith, ltb-false n m e)))
+
 -- an outcome whose table is words
 abbrev pub inWords : Outcome → routes.Outcome
 inWords o = record { values = o .values; route = o .route; table = words (o .table) }
@@ -119,14 +127,6 @@ module _ (body : Body) (route : List ℕ) (lent : List Entry) (k : ℕ) where
   swept-words : (o : Option ℕ) → inWords (swept body route lent k o) ≡ routes.swept body route (words lent) k o
   swept-words none = routed-words (bestRoute body (stepCost body) heavier)
   swept-words (some b) = λ i. record { values = routes.refusal 40 b; route = route; table = table-words (rowsOf body) (suc b) (body .count) lent i }
-
-  -- a table under 64 entries a block has under five times as many words
-  pub under : (n m : ℕ) → ltb n m ≡ ltb (5 * n) (5 * m)
-  under n m = by (ltb n m) refl
-    where
-      by : (t : Bool) → ltb n m ≡ t → t ≡ ltb (5 * n) (5 * m)
-      by true e = sym (lt-ltb (5 * n) (5 * m) (omega (arith, ltb-true n m e)))
-      by false e = sym (le-ltb (5 * n) (5 * m) (omega (arith, ltb-false n m e)))
 
   outcome-words : inWords (sweepOutcome body route lent k) ≡ routes.sweepOutcome body route (words lent) k
   outcome-words = by (ltb (length route) (body .count)) (ltb (length lent) (64 * body .count))

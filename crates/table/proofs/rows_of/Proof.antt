@@ -1,7 +1,5 @@
 -- `table::rows_of` meets its contract, case by case. Rests on specs/Swept.
-use mathlib.Core.Path.{sym, ap, _∙_}
-use Rattle.routes.specs.declared.sweep.SweepAnswer.{SweepAnswer}
-use Rattle.table.specs.Swept.{rowsFor, all-rows, upper-rows, below-no-row, no-rows}
+use Rattle.table.specs.Swept.{all-rows, upper-rows, below-no-row, no-rows}
 use borrow.Author.Needs.{needs}
 use Rattle.table.proofs.rows_of.Statement.{statement}
 use Rattle.table.proofs.rows_of.Tie as tie
