@@ -5,7 +5,7 @@ use mathlib.Core.List.{List, _++_, map}
 use mathlib.Core.Option.{Option, none, some}
 use Prim.Native.Nat.{ℕ, suc, _*_, _-_}
 use lib.Dec.{ltb}
-use lib.ListN.{length, take, drop}
+use lib.ListN.{length, take, drop, replicate}
 use Rattle.laws.specs.Terms.{each, range, heavier}
 use Rattle.form.specs.declared.Body.{Body}
 use Rattle.form.specs.Form.{bodyOf}
@@ -64,3 +64,10 @@ sweepOutcome body route table count =
 -- The sweep over a table of entries, for any bytes.
 abbrev pub TableOwed : (form route : List ℕ) → (table : List Entry) → Outcome → Type 0
 TableOwed form route table outcome = Owed form (refused route table) (sweepOutcome (bodyOf form) route table) outcome
+
+-- The same over a table of 1,536 zero entries of its own, whatever that holds afterwards.
+abbrev pub noEntry : Entry
+noEntry = entryFrom theory.noEntry
+
+abbrev pub OwnTableOwed : (form route : List ℕ) → SweepAnswer → (held : List ℕ) → Type 0
+OwnTableOwed form route answer held = (table : List Entry) × TableOwed form route (replicate 1536 noEntry) (outcomeOf answer held table)

@@ -27,8 +27,8 @@ use Rattle.routes.specs.declared.sweep.SweepAnswer.the-variants.{Routed, Refuse
 use Rattle.table.specs.declared.Entry.{Entry}
 use Rattle.table.specs.declared.Rows.{Rows}
 use Rattle.table.specs.declared.Swept.{Swept}
-use Rattle.table.specs.Answer.{entryFrom, tableWith, Outcome, outcomeOf, refused, routed, swept, sweepOutcome, TableOwed}
-use Rattle.table.specs.Stored.{noEntry, entryAt, stored}
+use Rattle.table.specs.Answer.{entryFrom, noEntry, tableWith, Outcome, outcomeOf, refused, routed, swept, sweepOutcome, TableOwed}
+use Rattle.table.specs.Stored.{entryAt, stored}
 use Rattle.table.specs.Words.{words, words-at, words-length, rowsFrom, rows-words}
 use Rattle.table.specs.Swept.{blocks, few-blocks, rowsFor, rows-within, lentWords, SweptWords}
 

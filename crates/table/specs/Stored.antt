@@ -5,9 +5,6 @@ use mathlib.Core.List.{List}
 use lib.ListN.{length, getD, set, length-set}
 use Rattle.table.specs.declared.Entry.{Entry}
 
-abbrev pub noEntry : Entry
-noEntry = record { jumps = 0; falls = 0; weight = 0; jumped = 0; fallen = 0 }
-
 -- entry i of the words
 abbrev pub entryAt : List ℕ → ℕ → Entry
 entryAt words i = record { jumps = getD words (5 * i) 0; falls = getD words (5 * i + 1) 0; weight = getD words (5 * i + 2) 0; jumped = getD words (5 * i + 3) 0; fallen = getD words (5 * i + 4) 0 }

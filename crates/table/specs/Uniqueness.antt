@@ -1,10 +1,10 @@
 -- What follows from the promise alone: the sweep over a table of entries says what the sweep over flat words says, and leaves its route and its words (`as-flat`); one answer and one
--- content of the lent bytes and of the lent table for every input, refusals too (`one-table`); no run of at most count iterations costs more than the bound (`table-sound`). Rests
--- on Words and on routes' SweepPromise.
+-- content of the lent bytes and of the lent table for every input, refusals too (`one-table`, and `one-own` over a table of its own); no run of at most count iterations costs more
+-- than the bound (`table-sound`). Rests on Words and on routes' SweepPromise.
 use mathlib.Core.Path.{_≡_, ap}
 use mathlib.Core.List.{List}
 use Prim.Native.Nat.{ℕ, _≤_}
-use lib.ListN.{length}
+use lib.ListN.{length, replicate}
 use Rattle.form.specs.Form.{bodyOf}
 use Rattle.theory.specs.Route.{Path, stepCost}
 use Rattle.theory.specs.Run.{Run, runCost}
@@ -14,7 +14,7 @@ use Rattle.routes.specs.SweepPromise.{one-sweep, sweep-sound}
 use Rattle.routes.specs.declared.sweep.SweepAnswer.{SweepAnswer}
 use Rattle.routes.specs.declared.sweep.SweepAnswer.the-variants.{Routed}
 use Rattle.table.specs.declared.Entry.{Entry}
-use Rattle.table.specs.Answer.{Outcome, outcomeOf, refused, sweepOutcome, TableOwed}
+use Rattle.table.specs.Answer.{noEntry, Outcome, outcomeOf, refused, sweepOutcome, TableOwed, OwnTableOwed}
 use Rattle.table.specs.Words.{words, owed-words}
 
 module _ (form route : List ℕ) (lent : List Entry) where
@@ -32,3 +32,8 @@ module _ (form route : List ℕ) (lent : List Entry) where
       → {l : List Path} → Run (bodyOf form) l → length l ≤ iterations → runCost (bodyOf form) (stepCost (bodyOf form)) l ≤ bound
   table-sound iterations weight bound kept held table o r n =
       sweep-sound form route (words lent) iterations weight bound kept held (words table) (owed-words form route lent (outcomeOf (Routed iterations weight bound kept) held table) o) r n
+
+pub one-own : (form route : List ℕ) (a b : SweepAnswer) (held held′ : List ℕ) → OwnTableOwed form route a held → OwnTableOwed form route b held′ → (a ≡ b) × (held ≡ held′)
+one-own form route a b held held′ (table, o) (table′, p) =
+    let (same, (bytes, tables)) = one-table form route (replicate 1536 noEntry) a b held held′ table table′ o p in
+    (same, bytes)

@@ -21,8 +21,8 @@ use Rattle.routes.specs.SweepTerms.{flat}
 use Rattle.routes.specs.SweepAnswer as routes
 use Rattle.routes.specs.SweepAnswer.{rowsOf}
 use Rattle.table.specs.declared.Entry.{Entry}
-use Rattle.table.specs.Answer.{entryFrom, tableWith, Outcome, refused, routed, swept, sweepOutcome, TableOwed}
-use Rattle.table.specs.Stored.{noEntry, entryAt}
+use Rattle.table.specs.Answer.{entryFrom, noEntry, tableWith, Outcome, refused, routed, swept, sweepOutcome, TableOwed}
+use Rattle.table.specs.Stored.{entryAt}
 
 -- the words of entries: jump set, fall set, weight, the blocks left by jump or go, the blocks left by fall
 unfoldable pub words : List Entry → List ℕ

@@ -1,10 +1,10 @@
 // The sweep over a lent table of entries, as document 01 has it: an entry is a struct, row b stands from entry 64 b on. Thin: the flat sweep of routes fills
-// words of this crate's own, and the entries of the rows that are complete are stored. `store` and `sweep` have a slice of structs and are proved by a walk
-// of their code by hand; the others are covered. What is owed is in specs/Answer.antt.
+// words of this crate's own, and the entries of the rows that are complete are stored. `store`, `sweep` and `sweep_own` have a slice of structs and are proved by
+// a walk of their code by hand; the others are covered. What is owed is in specs/Answer.antt.
 ghost use mathlib.Core.Path.{_≡_};
 ghost use Prim.Native.Nat.{min, _+_, _*_, _≤_};
 ghost use lib.ListN.{length};
-ghost use Rattle.table.specs.Answer.{outcomeOf, TableOwed};
+ghost use Rattle.table.specs.Answer.{outcomeOf, TableOwed, OwnTableOwed};
 ghost use Rattle.table.specs.Stored.{entryAt, stored};
 ghost use Rattle.table.specs.Swept.{blocks, rowsFor, SweptWords};
 use routes::sweep::SweepAnswer;
@@ -130,4 +130,19 @@ pub fn sweep(form: &[u8], table: &mut [Entry], route: &mut [u8]) -> SweepAnswer
     let swept = sweep_words(form, table.len(), &mut words, route);
     store(table, &words, swept.from, swept.entries);
     swept.answer
+}
+
+// The same over a table of its own, as large as the report program's: 1,536 entries.
+pub fn sweep_own(form: &[u8], route: &mut [u8]) -> SweepAnswer
+    ensures { λ r. ⌜ OwnTableOwed (now (form .entry)) (now (route .entry)) r (now (route .exit)) ⌝ }
+{
+    let none = Entry {
+        jumps: 0,
+        falls: 0,
+        weight: 0,
+        jumped: 0,
+        fallen: 0,
+    };
+    let mut table = [none; 1536];
+    sweep(form, &mut table, route)
 }
