@@ -65,9 +65,12 @@ sweepOutcome body route table count =
 abbrev pub TableOwed : (form route : List ℕ) → (table : List Entry) → Outcome → Type 0
 TableOwed form route table outcome = Owed form (refused route table) (sweepOutcome (bodyOf form) route table) outcome
 
--- The same over a table of 1,536 zero entries of its own, whatever that holds afterwards.
+-- A table of 1,536 zero entries of its own, whatever that holds afterwards.
 abbrev pub noEntry : Entry
 noEntry = entryFrom theory.noEntry
 
+abbrev pub ownTable : List Entry
+ownTable = replicate 1536 noEntry
+
 abbrev pub OwnTableOwed : (form route : List ℕ) → SweepAnswer → (held : List ℕ) → Type 0
-OwnTableOwed form route answer held = (table : List Entry) × TableOwed form route (replicate 1536 noEntry) (outcomeOf answer held table)
+OwnTableOwed form route answer held = (table : List Entry) × TableOwed form route ownTable (outcomeOf answer held table)

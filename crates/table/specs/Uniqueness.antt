@@ -4,7 +4,7 @@
 use mathlib.Core.Path.{_≡_, ap}
 use mathlib.Core.List.{List}
 use Prim.Native.Nat.{ℕ, _≤_}
-use lib.ListN.{length, replicate}
+use lib.ListN.{length}
 use Rattle.form.specs.Form.{bodyOf}
 use Rattle.theory.specs.Route.{Path, stepCost}
 use Rattle.theory.specs.Run.{Run, runCost}
@@ -14,7 +14,7 @@ use Rattle.routes.specs.SweepPromise.{one-sweep, sweep-sound}
 use Rattle.routes.specs.declared.sweep.SweepAnswer.{SweepAnswer}
 use Rattle.routes.specs.declared.sweep.SweepAnswer.the-variants.{Routed}
 use Rattle.table.specs.declared.Entry.{Entry}
-use Rattle.table.specs.Answer.{noEntry, Outcome, outcomeOf, refused, sweepOutcome, TableOwed, OwnTableOwed}
+use Rattle.table.specs.Answer.{Outcome, outcomeOf, refused, sweepOutcome, TableOwed, ownTable, OwnTableOwed}
 use Rattle.table.specs.Words.{words, owed-words}
 
 module _ (form route : List ℕ) (lent : List Entry) where
@@ -35,5 +35,5 @@ module _ (form route : List ℕ) (lent : List Entry) where
 
 pub one-own : (form route : List ℕ) (a b : SweepAnswer) (held held′ : List ℕ) → OwnTableOwed form route a held → OwnTableOwed form route b held′ → (a ≡ b) × (held ≡ held′)
 one-own form route a b held held′ (table, o) (table′, p) =
-    let (same, (bytes, tables)) = one-table form route (replicate 1536 noEntry) a b held held′ table table′ o p in
+    let (same, (bytes, tables)) = one-table form route ownTable a b held held′ table table′ o p in
     (same, bytes)
