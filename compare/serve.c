@@ -20,7 +20,7 @@ typedef __UINT64_TYPE__ uint64_t;
 #pragma weak somniaret_sweep
 #pragma weak somniaret_sweep_table
 
-enum { VERDICT = 1, REWRITE, COUNT, CONFLICTS, PAIR, WALK, SWEEP, SWEEP_TABLE };
+enum { VERDICT = 1, REWRITE, COUNT, CONFLICTS, PAIR, WALK, SWEEP, SWEEP_TABLE, STACK };
 
 enum { MOST_BYTES = 1 << 20 };
 
@@ -161,6 +161,29 @@ static uint8_t *at(const struct part *part)
     return answer.memory + part->start;
 }
 
+/* All calls are made on this stack, which is painted beforehand, so that it shows how much of it they used. */
+
+enum { STACK_WORDS = 1 << 17 };
+
+uint64_t own_stack[STACK_WORDS] __attribute__((aligned(16)));
+
+#define PAINT 0x5a17a11c0de5f00dULL
+
+void paint(void)
+{
+    for (size_t at = 0; at < STACK_WORDS; at++)
+        own_stack[at] = PAINT;
+}
+
+/* The most bytes of stack that a call took so far, below this frame. */
+static uint64_t used_stack(const void *frame)
+{
+    size_t at = 0;
+    while (at < STACK_WORDS && own_stack[at] == PAINT)
+        at++;
+    return (uint64_t)((const uint8_t *)frame - (const uint8_t *)(own_stack + at));
+}
+
 /* Asks the library and says whether it has the call. All numbers of the answer are zero beforehand. */
 static int ask(void)
 {
@@ -215,6 +238,9 @@ static int ask(void)
             return 0;
         answer.numbers.sweep = somniaret_sweep_table(form, len, table, words, out, out_len);
         return 1;
+    case STACK:
+        answer.numbers.all[0] = used_stack(__builtin_frame_address(0));
+        return 1;
     default:
         leave(NO_QUESTION);
         return 0;
@@ -238,5 +264,7 @@ __asm__(".globl _start\n"
         "_start:\n"
         "    xorl %ebp, %ebp\n"
         "    andq $-16, %rsp\n"
+        "    call paint\n"
+        "    leaq own_stack+1048576(%rip), %rsp\n"
         "    call serve\n"
         "    ud2\n");

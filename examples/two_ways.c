@@ -47,7 +47,7 @@ int main(int argc, char **argv)
         char *end;
         errno = 0;
         unsigned long asked = strtoul(argv[2], &end, 10);
-        if (errno != 0 || *end != '\0' || end == argv[2] || asked > UINT32_MAX) {
+        if (errno != 0 || *end != '\0' || argv[2][0] < '0' || argv[2][0] > '9' || asked > UINT32_MAX) {
             fprintf(stderr, "%s: the budget is a number up to %" PRIu32 "\n", argv[0], UINT32_MAX);
             return 2;
         }

@@ -57,6 +57,7 @@ fn numbers(listing: &Listing, call: Call, given: [u64; 4], memory: &mut Memory) 
             memory.set_entries(&table);
             swept(answer?)
         }
+        Call::Stack => panic!("the second program knows nothing of the library's stack"),
     })
 }
 

@@ -26,6 +26,8 @@ pub enum Call {
     Walk,
     Sweep,
     SweepTable,
+    /// No call of the library: the most bytes of stack that one of its calls took so far.
+    Stack,
 }
 
 impl Call {
@@ -39,6 +41,7 @@ impl Call {
             Call::Walk => "somniaret_walk",
             Call::Sweep => "somniaret_sweep",
             Call::SweepTable => "somniaret_sweep_table",
+            Call::Stack => "the stack's use",
         }
     }
 }

@@ -9,11 +9,11 @@
 use std::process::ExitCode;
 
 use by_listing::calls::MOST_WAYS;
-use by_listing::driver::{Comparison, Form};
+use by_listing::driver::{agree, Comparison, Form};
 use by_listing::form::{read, MOST_BLOCKS};
 use by_listing::generate::mostly_wide;
 use by_listing::rows::ROW_WORDS;
-use by_listing::served::{Answer, Call, Question};
+use by_listing::served::{Call, Question};
 use by_listing::ways::ways_to_list;
 
 const INPUTS: u64 = 5_000;
@@ -47,15 +47,4 @@ fn main() -> ExitCode {
         (Call::SweepTable, &[&of_both[..], &[40]].concat()),
         (Call::Sweep, &[&of_both[..], &[40, 44]].concat()),
     ])
-}
-
-/// Are the first so many numbers the same, and the route? Nothing is asked where one of the two answers with a number that
-/// the other cannot give.
-fn agree(which: &str, two: [&Answer; 2], blocks: usize, numbers: usize, only_one: &[u64]) -> Result<(), String> {
-    if two.iter().any(|answer| only_one.contains(&answer.numbers[0])) {
-        return Ok(());
-    }
-    let [one, other] = two.map(|answer| (&answer.numbers[..numbers], &answer.memory.out()[..blocks]));
-    let same = if one.0[0] == 0 { one == other } else { one.0 == other.0 };
-    same.then_some(()).ok_or_else(|| format!("{which} do not agree: {one:?} and {other:?}"))
 }

@@ -1,0 +1,167 @@
+// What is printed of a case: every number of every answer, so that a wrong one changes the text.
+ghost use Rattle.io.specs.Counts.{Counts};
+use counter::Counted;
+use form::Written;
+use listing::Listed;
+use routes::sweep::SweepAnswer;
+use routes::walk::WalkAnswer;
+
+// The report program's table, 1,536 entries of five words, and its walk budget.
+const TABLE_WORDS: usize = 7680;
+
+pub fn say(text: &[u8]) {
+    io::write_all(1, text);
+}
+
+fn number(n: u64) {
+    io::print_decimal(1, n);
+}
+
+// A word and a number.
+fn value(word: &[u8], n: u64) {
+    say(word);
+    number(n);
+}
+
+fn byte(b: u8) {
+    number(b as u64);
+}
+
+fn refusal(n: u32, place: usize) {
+    value(b" refused ", n as u64);
+    value(b" at ", place as u64);
+    say(b"\n");
+}
+
+// The numbers between two entries of five bytes stand apart.
+fn gap(i: usize) {
+    if i > 0 && i % 5 == 0 {
+        say(b";");
+    }
+    say(b" ");
+}
+
+// Bytes as numbers, in entries of five.
+fn entries(bytes: &[u8]) {
+    let mut i = 0;
+    while i < bytes.len() {
+        gap(i);
+        byte(bytes[i]);
+        i += 1;
+    }
+    say(b"\n");
+}
+
+// The bytes of a route up to its last block.
+fn route(bytes: [u8; 64]) {
+    say(b", route");
+    let mut i = 0;
+    while i < 64 {
+        say(b" ");
+        byte(bytes[i]);
+        if bytes[i] == 3 {
+            break;
+        }
+        i += 1;
+    }
+    say(b"\n");
+}
+
+pub fn count(name: &[u8], initial: i32, step: i32, relation: u8, limit: i32) {
+    say(name);
+    match counter::count(initial, step, relation, limit) {
+        Counted::Iterations(k) => {
+            value(b" ", k);
+            say(b"\n");
+        }
+        Counted::Refused { number, place } => refusal(number, place),
+    }
+}
+
+pub fn pair(name: &[u8], relation1: u8, constant1: i32, relation2: u8, constant2: i32) {
+    say(name);
+    if pair::conflicting(relation1, constant1, relation2, constant2) {
+        say(b" conflict\n");
+    } else {
+        say(b" no conflict\n");
+    }
+}
+
+pub fn list(form: &[u8]) {
+    say(b"  list:");
+    let mut out = [0u8; 64];
+    match listing::conflicts(form, &mut out) {
+        Listed::Bytes(n) => entries(&out[..n]),
+        Listed::Unlisted { number, place } => refusal(number, place),
+    }
+}
+
+pub fn sweep(form: &[u8]) {
+    say(b"  sweep:");
+    let mut table = [0u64; TABLE_WORDS];
+    let mut bytes = [0u8; 64];
+    match routes::sweep::sweep(form, &mut table, &mut bytes) {
+        SweepAnswer::Routed {
+            iterations,
+            weight,
+            bound,
+            kept,
+        } => {
+            value(b" iterations ", iterations);
+            value(b", weight ", weight);
+            value(b", bound ", bound);
+            value(b", kept ", kept);
+            route(bytes);
+        }
+        SweepAnswer::Refused { number, place } => refusal(number, place),
+    }
+}
+
+pub fn walk(form: &[u8], budget: u32) {
+    value(b"  walk, budget ", budget as u64);
+    say(b":");
+    let mut bytes = [0u8; 64];
+    match routes::walk::walk(form, budget, &mut bytes) {
+        WalkAnswer::Walked {
+            iterations,
+            weight,
+            bound,
+            walked,
+        } => {
+            value(b" iterations ", iterations);
+            value(b", weight ", weight);
+            value(b", bound ", bound);
+            value(b", walked ", walked);
+            route(bytes);
+        }
+        WalkAnswer::Refused { number, place } => refusal(number, place),
+    }
+}
+
+// The body's form, laid out in the lent bytes; how many bytes it has, or none where the writer refuses.
+pub fn form(body: form::Body, out: &mut [u8; 3665]) -> usize
+    ensures { λ r. ⌜ Counts r (now (out .exit)) ⌝ }
+{
+    say(b"  form:");
+    match writer::write(body, out) {
+        Written::Bytes(n) => {
+            value(b" ", n as u64);
+            say(b" bytes\n");
+            n
+        }
+        Written::Unwritten { number, place } => {
+            refusal(number, place);
+            0
+        }
+    }
+}
+
+// A case: what is said of it, its form, list, sweep and walk.
+pub fn body(name: &[u8], body: form::Body) {
+    say(name);
+    let mut out = [0u8; 3665];
+    let n = form(body, &mut out);
+    list(&out[..n]);
+    sweep(&out[..n]);
+    walk(&out[..n], 100000);
+}

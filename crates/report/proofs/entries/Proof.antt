@@ -1,0 +1,45 @@
+-- `report::entries` meets its contract: the list tells its bytes, five an entry, with room or without (Parts). Assumes nothing.
+use native.Mathlib.Omega.{arith}
+use Rattle.report.specs.Parts.{all-bytes, all-needed}
+use borrow.Author.Needs.{needs}
+use Rattle.report.proofs.entries.Statement.{statement}
+use Rattle.report.proofs.entries.Tie as tie
+
+array-borrow-prefix-none : tie.Need-array-borrow-prefix-none
+array-borrow-prefix-none c = search needs
+
+slice-aggregate-conflicts : tie.Need-slice-aggregate-conflicts
+slice-aggregate-conflicts c = search needs
+
+conflicts-requires : tie.Need-conflicts-requires
+conflicts-requires c κs = search needs
+
+enum-known-count : tie.Need-enum-known-count
+enum-known-count c = search needs
+
+enum-known-place : tie.Need-enum-known-place
+enum-known-place c = search needs
+
+returns : tie.Need-returns
+returns c =
+    λ a.
+    let n = all-bytes _ _ a _ _ (c .before .before .before .before .conflicts .ensures .0) (c .before .count .given .1) in
+    omega (arith, n)
+
+returns-2 : tie.Need-returns-2
+returns-2 c =
+    λ a.
+    let n = all-needed _ _ a _ _ _ (c .before .before .before .before .conflicts .ensures .0) (c .before .place .given .1) in
+    omega (arith, n)
+
+pub entries-spec : {M : Type 1} → statement M
+entries-spec =
+    tie.close
+    (tie.spec
+    array-borrow-prefix-none
+    slice-aggregate-conflicts
+    conflicts-requires
+    enum-known-count
+    enum-known-place
+    returns
+    returns-2)

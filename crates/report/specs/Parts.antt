@@ -1,0 +1,113 @@
+-- The parts of the report that rest on an answer, as the functions leave them in the lent bytes. Rests on Report and Adding.
+use mathlib.Core.Bool.{Bool, true, false}
+use mathlib.Core.List.{List, _++_, append-assoc}
+use mathlib.Core.Path.{_≡_, refl, ap, sym, subst, _∙_}
+use Prim.Native.Nat.{ℕ, _+_, _*_, _≤_}
+use lib.Dec.{ltb}
+use lib.ListN.{length, take}
+use Rattle.form.specs.declared.Body.{Body}
+use Rattle.form.specs.declared.Reading.{Reading}
+use Rattle.form.specs.declared.Verdict.{Verdict}
+use Rattle.form.specs.declared.Verdict.the-variants.{Accepted}
+use Rattle.form.specs.Form.{when, judge, bodyOf}
+use Rattle.form.specs.Answer.{reading}
+use Rattle.form.specs.Conflict.{conflicts, conflictBytes}
+use Rattle.listing.specs.declared.Listed.{Listed}
+use Rattle.listing.specs.declared.Listed.the-variants.{Bytes, Unlisted}
+use Rattle.listing.specs.Answer.{listing, asJudged}
+use Rattle.listing.specs.Listing.{bytes-length}
+use Rattle.routes.specs.declared.sweep.SweepAnswer.{SweepAnswer}
+use Rattle.routes.specs.declared.sweep.SweepAnswer.the-variants.{Routed, Refused as Unswept}
+use Rattle.routes.specs.SweepAnswer.{SweepOwed, outcomeOf}
+use Rattle.routes.specs.SweepPromise.{sweep-answered}
+use Rattle.routes.specs.declared.walk.WalkAnswer.{WalkAnswer}
+use Rattle.routes.specs.WalkAnswer.{WalkOwed, said}
+use Rattle.report.specs.Report.{line, refusalLine, routeLine, walkedLine, blocksWord, iterationsWord, conflictsWord, weightWord, boundWord, keptWord, noRoute, emptyTable, budget, Reported}
+use Rattle.report.specs.Report.Reported.{refused, reported}
+use Rattle.report.specs.Adding.{Adds, then}
+
+-- the walk's line, from an answer that the walk owes
+pub record WalkedAdds (form before : List ℕ) (at : ℕ) (after : List ℕ) (r : ℕ) : Type 0 where
+  pub walk : WalkAnswer
+  pub held : List ℕ
+  pub owed : WalkOwed form budget noRoute (said walk, held)
+  pub adds : Adds before at after r (walkedLine walk)
+  pub few : r ≤ at + 28
+
+-- the first five lines
+abbrev pub fiveLines : Body → (iterations weight bound : ℕ) → List ℕ
+fiveLines body iterations weight bound =
+    line blocksWord (body .count)
+    ++ (line iterationsWord iterations ++ (line conflictsWord (length (conflicts body)) ++ (line weightWord weight ++ line boundWord bound)))
+
+-- the last three
+pub record ThreeAdds (form before : List ℕ) (at : ℕ) (after : List ℕ) (r : ℕ) (kept : ℕ) (route : List ℕ) : Type 0 where
+  pub walk : WalkAnswer
+  pub held : List ℕ
+  pub owed : WalkOwed form budget noRoute (said walk, held)
+  pub adds : Adds before at after r (routeLine route ++ (line keptWord kept ++ walkedLine walk))
+  pub few : r ≤ at + 1500
+
+pub five-and-three : (a b c d e f : List ℕ) → (a ++ (b ++ (c ++ (d ++ e)))) ++ f ≡ a ++ (b ++ (c ++ (d ++ (e ++ f))))
+five-and-three a b c d e f = simp append-assoc
+
+-- the list of an accepted form, whether there was room for it or not, tells its bytes, five an entry
+needs : (v : Verdict) (short : Bool) (l : ℕ) (r : Listed) → v ≡ Accepted → r ≡ asJudged v (when short (Unlisted 42 l) (Bytes l)) → r ≡ when short (Unlisted 42 l) (Bytes l)
+needs v short l r a e = e ∙ ap (λ (v : Verdict). asJudged v (when short (Unlisted 42 l) (Bytes l))) a
+
+by-bytes : (short : Bool) (l n : ℕ) → Bytes n ≡ when short (Unlisted 42 l) (Bytes l) → n ≡ l
+by-bytes true l n e = cc
+by-bytes false l n e = cc
+
+by-need : (short : Bool) (l n m : ℕ) → Unlisted m n ≡ when short (Unlisted 42 l) (Bytes l) → n ≡ l
+by-need true l n m e = cc
+by-need false l n m e = cc
+
+module _ (form : List ℕ) (room : ℕ) (a : judge form ≡ Accepted) where
+  abbrev bytes : ℕ
+  bytes = length (conflictBytes (bodyOf form))
+
+  pub all-bytes : (n : ℕ) (r : Listed) → r ≡ listing form room → r ≡ Bytes n → n ≡ 5 * length (conflicts (bodyOf form))
+  all-bytes n r says e = by-bytes (ltb room bytes) bytes n (sym e ∙ needs (judge form) (ltb room bytes) bytes r a says) ∙ bytes-length (bodyOf form)
+
+  pub all-needed : (m n : ℕ) (r : Listed) → r ≡ listing form room → r ≡ Unlisted m n → n ≡ 5 * length (conflicts (bodyOf form))
+  all-needed m n r says e = by-need (ltb room bytes) bytes n m (sym e ∙ needs (judge form) (ltb room bytes) bytes r a says) ∙ bytes-length (bodyOf form)
+
+-- the body that is read
+pub read-count : (form : List ℕ) → judge form ≡ Accepted → (r : Reading) → r ≡ reading form → r .body .count ≡ bodyOf form .count
+read-count form a r e = ap (λ (r : Reading). r .body .count) e ∙ rw a refl
+
+-- ---- from an answer to what is printed
+
+pub walked-shown : (form o p held : List ℕ) (at r : ℕ) (answer shown : WalkAnswer) → WalkOwed form budget noRoute (said answer, held) → answer ≡ shown
+    → Adds o at p r (walkedLine shown) → r ≤ at + 28 → WalkedAdds form o at p r
+walked-shown form o p held at r answer shown owed e adds few = record {
+  walk = answer;
+  held = held;
+  owed = owed;
+  adds = subst (λ (x : WalkAnswer). Adds o at p r (walkedLine x)) (sym e) adds;
+  few = few;
+}
+
+-- for any lent table, so that none is written out
+module _ (form lent table : List ℕ) where
+  shown-owed : (route rows : List ℕ) (answer shown : SweepAnswer) → SweepOwed form lent table (outcomeOf answer route rows) → answer ≡ shown → SweepOwed form lent table (outcomeOf shown route rows)
+  shown-owed route rows answer shown owed e = subst (λ (x : SweepAnswer). SweepOwed form lent table (outcomeOf x route rows)) e owed
+
+  pub routed-accepted : (route rows : List ℕ) (iterations weight bound kept : ℕ) → SweepOwed form lent table (outcomeOf (Routed iterations weight bound kept) route rows) → judge form ≡ Accepted
+  routed-accepted route rows iterations weight bound kept owed = sweep-answered form lent table (outcomeOf (Routed iterations weight bound kept) route rows) owed refl .accepted
+
+pub routed-reported : (form o mid p : List ℕ) (a r : ℕ) (route rows : List ℕ) (answer : SweepAnswer) (iterations weight bound kept : ℕ)
+    → SweepOwed form noRoute emptyTable (outcomeOf answer route rows) → answer ≡ Routed iterations weight bound kept
+    → (judge form ≡ Accepted → Adds o 0 mid a (fiveLines (bodyOf form) iterations weight bound)) → ThreeAdds form mid a p r kept route → Reported form (take r p)
+routed-reported form o mid p a r route rows answer iterations weight bound kept says e five three =
+    let owed = shown-owed form noRoute emptyTable route rows answer (Routed iterations weight bound kept) says e in
+    let accepted = routed-accepted form noRoute emptyTable route rows iterations weight bound kept owed in
+    reported iterations weight bound kept route rows owed (three .walk) (three .held) (three .owed) (then (five accepted) (three .adds) .holds
+    ∙ five-and-three (line blocksWord (bodyOf form .count)) (line iterationsWord iterations) (line conflictsWord (length (conflicts (bodyOf form)))) (line weightWord weight) (line boundWord bound)
+    (routeLine route ++ (line keptWord kept ++ walkedLine (three .walk))))
+
+pub refused-reported : (form o p : List ℕ) (r : ℕ) (route rows : List ℕ) (answer : SweepAnswer) (number place : ℕ)
+    → SweepOwed form noRoute emptyTable (outcomeOf answer route rows) → answer ≡ Unswept number place → Adds o 0 p r (refusalLine number place) → Reported form (take r p)
+refused-reported form o p r route rows answer number place says e adds =
+    refused number place route rows (shown-owed form noRoute emptyTable route rows answer (Unswept number place) says e) (adds .holds)

@@ -1,0 +1,109 @@
+-- What follows from the report's promise: one text for every input (`one-report`), which hangs on the front of the input alone (`any-length`); and where there are eight
+-- lines, the walk refuses by 41 alone (`only-over`). Rests on Report, on what the two ways owe, and on roundtrip's Front.
+use mathlib.Core.Bool.{Bool, true, false, cond}
+use mathlib.Core.List.{List}
+use mathlib.Core.Option.{Option, none, some}
+use mathlib.Core.Path.{_≡_, refl, ap, sym, subst, _∙_}
+use Prim.Native.Nat.{ℕ, _≤_}
+use native.Mathlib.Omega.{arith}
+use borrow.Author.Tests.{ltb-true}
+use lib.Dec.{ltb}
+use lib.ListN.{length, take}
+use Rattle.laws.specs.Terms.{heavier}
+use Rattle.form.specs.declared.Body.{Body}
+use Rattle.form.specs.declared.Verdict.the-variants.{Accepted, Refused as Unread}
+use Rattle.form.specs.Form.{judge, bodyOf}
+use Rattle.roundtrip.specs.Front.{front, front-all}
+use Rattle.roundtrip.specs.Sound.{sound}
+use Rattle.theory.specs.Route.{Path, stepCost, bestRoute, walked}
+use Rattle.routes.specs.Owed.{Owed}
+use Rattle.routes.specs.Owed.Owed.{no-form, no-count, counted}
+use Rattle.routes.specs.declared.sweep.SweepAnswer.the-variants.{Routed, Refused as Unswept}
+use Rattle.routes.specs.SweepAnswer as sweep
+use Rattle.routes.specs.SweepPromise.{one-sweep, sweep-answered, Answered}
+use Rattle.routes.specs.declared.walk.WalkAnswer.the-variants.{Refused}
+use Rattle.routes.specs.WalkAnswer as walk
+use Rattle.routes.specs.WalkPromise.{one-walk}
+use Rattle.report.specs.Report.{refusalLine, eightLines, noRoute, emptyTable, budget, Reported}
+use Rattle.report.specs.Report.Reported.{refused, reported}
+use Rattle.report.specs.Parts.{routed-accepted}
+
+-- ---- one text
+
+module _ (form : List ℕ) where
+  pub one-report : (t u : List ℕ) → Reported form t → Reported form u → t ≡ u
+  one-report t u (refused n p route rows o e) (refused m q route′ rows′ o′ e′) =
+      let same = one-sweep form noRoute emptyTable (Unswept n p) (Unswept m q) route rows route′ rows′ o o′ .0 in
+      let number : n ≡ m = cc in
+      let place : p ≡ q = cc in
+      e ∙ ((λ i. refusalLine (number i) (place i)) ∙ sym e′)
+  one-report t u (refused n p route rows o e) (reported i w b k route′ rows′ o′ a held x e′) =
+      let same = one-sweep form noRoute emptyTable (Unswept n p) (Routed i w b k) route rows route′ rows′ o o′ .0 in
+      let z : _≡_ {A = ℕ} 0 1 = cc in
+      absurd (omega arith)
+  one-report t u (reported i w b k route rows o a held x e) (refused m q route′ rows′ o′ e′) =
+      let same = one-sweep form noRoute emptyTable (Routed i w b k) (Unswept m q) route rows route′ rows′ o o′ .0 in
+      let z : _≡_ {A = ℕ} 0 1 = cc in
+      absurd (omega arith)
+  one-report t u (reported i w b k route rows o a held x e) (reported i′ w′ b′ k′ route′ rows′ o′ a′ held′ x′ e′) =
+      let both = one-sweep form noRoute emptyTable (Routed i w b k) (Routed i′ w′ b′ k′) route rows route′ rows′ o o′ in
+      let same = both .0 in
+      let walks : a ≡ a′ = one-walk form budget noRoute a a′ held held′ x x′ .0 in
+      let iterations : i ≡ i′ = cc in
+      let weight : w ≡ w′ = cc in
+      let bound : b ≡ b′ = cc in
+      let kept : k ≡ k′ = cc in
+      e ∙ ((λ j. eightLines (bodyOf form) (iterations j) (weight j) (bound j) (kept j) (both .1 .0 j) (walks j)) ∙ sym e′)
+
+-- ---- the front of the input
+
+module _ (s : List ℕ) (n : ℕ) (h : 3682 ≤ n) where
+  -- an accepted form is no longer than what is read of it
+  whole : judge (take n s) ≡ Accepted → take n s ≡ s
+  whole a = front-all s n (omega arith) (sym (front n s h) ∙ a)
+
+  owed-front : {A : Type 0} (refuse : ℕ → ℕ → A) (with : Body → ℕ → A) (x : A) → Owed (take n s) refuse (with (bodyOf (take n s))) x → Owed s refuse (with (bodyOf s)) x
+  owed-front refuse with x (no-form number place j e) = no-form number place (sym (front n s h) ∙ j) e
+  owed-front refuse with x (no-count a never e) = subst (λ (t : List ℕ). Owed t refuse (with (bodyOf t)) x) (whole a) (no-count a never e)
+  owed-front refuse with x (counted a k c e) = subst (λ (t : List ℕ). Owed t refuse (with (bodyOf t)) x) (whole a) (counted a k c e)
+
+  pub any-length : (t : List ℕ) → Reported (take n s) t → Reported s t
+  any-length t (refused number place route rows o e) =
+      refused number place route rows
+      (owed-front (sweep.refused noRoute emptyTable) (λ body. sweep.sweepOutcome body noRoute emptyTable) (sweep.outcomeOf (Unswept number place) route rows) o) e
+  any-length t (reported i w b k route rows o a held x e) =
+      subst (λ (f : List ℕ). Reported f t) (whole (routed-accepted (take n s) noRoute emptyTable route rows i w b k o)) (reported i w b k route rows o a held x e)
+
+-- ---- over
+
+module _ (form : List ℕ) (a : judge form ≡ Accepted) (v : ℕ × Path) (best : bestRoute (bodyOf form) (stepCost (bodyOf form)) heavier ≡ some v) where
+  -- the tests: too few bytes, over the budget; then there is a route
+  by-walk : (lent : List ℕ) (most k number place : ℕ) → 1 ≤ k → 64 ≤ length lent → (held : List ℕ) (short over : Bool) → ltb (length lent) (bodyOf form .count) ≡ short
+      → (o : Option (ℕ × Path)) → o ≡ some v
+      → (walk.refusal number place, held) ≡ cond short (walk.refused lent 42 (bodyOf form .count)) (cond over (walk.refused lent 41 most) (walk.routed (bodyOf form) lent k o))
+      → (number ≡ 41) × (place ≡ most)
+  by-walk lent most k number place l room held true over f o q e =
+      let z : ⊥ = omega (arith, ltb-true (length lent) (bodyOf form .count) f, sound form a .few) in absurd z
+  by-walk lent most k number place l room held false true f o q e = (ap (λ (x : walk.Outcome). x .0 .number) e, ap (λ (x : walk.Outcome). x .0 .place) e)
+  by-walk lent most k number place l room held false false f none q e = let z : _≡_ {A = ℕ} 0 1 = nothing q in absurd (omega arith)
+    where
+      nothing : {u : ℕ × Path} → none ≡ some u → _≡_ {A = ℕ} 0 1
+      nothing q = cc
+  by-walk lent most k number place l room held false false f (some u) q e =
+      let z : 0 ≡ k = ap (λ (x : walk.Outcome). x .0 .iterations) e in absurd (omega arith)
+
+-- where the sweep answers, a walk's refusal is 41 with the budget
+pub only-over : (form lent table : List ℕ) (most : ℕ) → 64 ≤ length lent → (i w b k : ℕ) (route rows : List ℕ) → sweep.SweepOwed form lent table (sweep.outcomeOf (Routed i w b k) route rows)
+    → (number place : ℕ) (held : List ℕ) → walk.WalkOwed form most lent (walk.said (Refused number place), held) → (number ≡ 41) × (place ≡ most)
+only-over form lent table most room i w b k route rows o number place held owed =
+    cases (sweep-answered form lent table (sweep.outcomeOf (Routed i w b k) route rows) o refl) owed
+  where
+    cases : Answered form lent route i w b → walk.WalkOwed form most lent (walk.said (Refused number place), held) → (number ≡ 41) × (place ≡ most)
+    cases s (no-form m q j e) = let z : _≡_ {A = ℕ} 0 1 = unlike (sym (s .accepted) ∙ j) in absurd (omega arith)
+      where
+        unlike : {m q : ℕ} → Accepted ≡ Unread m q → _≡_ {A = ℕ} 0 1
+        unlike e = cc
+    cases s (no-count a never e) = absurd (never i (s .counts))
+    cases s (counted a c count e) =
+        by-walk form a (s .route) (s .best) lent most c number place (count .enough) room held (ltb (length lent) (bodyOf form .count)) (ltb most (walked (bodyOf form))) refl
+        (bestRoute (bodyOf form) (stepCost (bodyOf form)) heavier) (s .best) e
