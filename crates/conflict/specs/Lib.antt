@@ -1,7 +1,6 @@
 -- The definitions that the contracts of the conflicts cite, and what they leave.
 pub mod Sets
 pub mod Parts
-pub mod Turns
 pub mod Sorting
 pub mod Reaching
 pub mod Finding

@@ -1,32 +1,16 @@
--- The sets of edges and blocks that the walks need of a body, as rows of words: word b of a row is a set of blocks k, bit k for block k. Trusted: definitions
--- only. Rests on form's Conflict and on the rows of words.Tabled.
-use mathlib.Core.Bool.{Bool, cond, _&&_}
-use mathlib.Core.List.{List, [], _∷_}
-use Prim.Native.Nat.{ℕ}
-use lib.Dec.{eqb}
-use Rattle.words.specs.Tabled.{tabled, rows}
+-- The sets of edges and blocks that the walks need of a body, as rows of words: what its blocks say by themselves, and the edges that the conflict list pairs with a first below
+-- each block. Trusted: definitions only. Rests on form's Conflict and on edges.Local.
 use Rattle.form.specs.declared.Body.{Body}
-use Rattle.form.specs.Conflict.{Edge, block, touches, exits, isTest, opposes, denies, listed, conflicts}
-use Rattle.conflict.specs.declared.Edges.{Edges}
+use Rattle.form.specs.Conflict.{listed, conflicts}
+use Rattle.edges.specs.Local.{edgeRows, localOf}
 use Rattle.conflict.specs.declared.Sets.{Sets}
 
--- where a way leads, 64 where there is no such way
-abbrev pub wayTo : ℕ → List (ℕ × ℕ) → ℕ
-wayTo way [] = 64
-wayTo way (o ∷ l) = cond (eqb (o .0) way) (o .1) (wayTo way l)
-
--- for each block b a set of edges: those by jump, and those by fall
-abbrev pub edgeRows : (ℕ → Edge → Bool) → Edges
-edgeRows f = record { jump = rows (λ b k. f b (k, 1)); fall = rows (λ b k. f b (k, 2)) }
-
--- touched: the tests whose variable b has an effect on; denied: the edges that b's last effect on their variable, a constant, conflicts with; jumping, falling: the
--- edges that b's edge by jump, by fall, conflicts with; listed: the edges that the conflict list pairs with a first below b
 unfoldable pub setsOf : Body → Sets
 setsOf body = record {
-  targets = record { jump = tabled 64 (λ b. wayTo 1 (exits body b)); fall = tabled 64 (λ b. wayTo 2 (exits body b)) };
-  touched = rows (λ b k. isTest body k && touches body b (block body k .variable));
-  denied = edgeRows (denies body);
-  jumping = edgeRows (λ b e. opposes body (b, 1) e);
-  falling = edgeRows (λ b e. opposes body (b, 2) e);
+  targets = localOf body .targets;
+  touched = localOf body .touched;
+  denied = localOf body .denied;
+  jumping = localOf body .jumping;
+  falling = localOf body .falling;
   listed = edgeRows (listed (conflicts body));
 }

@@ -1,6 +1,6 @@
--- The tests of each variable and the edges of each lowest first, sorted into words: the end of the loops that do it. Rests on Parts and on words.Sorted.
+-- The edges of each lowest first, sorted into words: the end of the loop that does it. Rests on Parts and on words.Sorted.
 use mathlib.Core.Path.{_≡_, refl, sym, ap, _∙_}
-use mathlib.Core.Bool.{Bool, false, not, _&&_, _||_}
+use mathlib.Core.Bool.{Bool, false, not, _||_}
 use mathlib.Core.List.{List}
 use Prim.Native.Nat.{ℕ, _+_, _^_, _≤_, _<_}
 use native.Mathlib.Omega.{arith}
@@ -8,14 +8,9 @@ use lib.Count.{trailingZeros}
 use lib.Dec.{eqb}
 use lib.ListN.{length, getD}
 use Rattle.laws.specs.Terms.{bit, any}
-use Rattle.laws.specs.Sets.{bit-beyond}
 use Rattle.relations.specs.Blocks.{beyond}
 use Rattle.words.specs.Sorted.{Sorted, sorted-end, any-least}
-use Rattle.conflict.specs.Parts.{OnVariable, LowestFirsts}
-
-pub on-variable-end :
-    (tests : ℕ) (variable l : List ℕ) (i : ℕ) → tests < 2 ^ 64 → 64 ≤ i → Sorted 256 (λ j. getD variable j 0) (bit tests) i l → OnVariable tests variable l
-on-variable-end tests variable l i fits h s = record { size = s .size; at = sorted-end 256 (λ j. getD variable j 0) (bit tests) i l (λ j m. bit-beyond 64 j fits (omega arith)) s }
+use Rattle.conflict.specs.Parts.{LowestFirsts}
 
 pub lowest-firsts-end :
     (firsts l : List ℕ) (i : ℕ) → length firsts ≡ 64 → ((j : ℕ) → getD firsts j 0 < 2 ^ 64) → 64 ≤ i

@@ -20,7 +20,8 @@ use Rattle.relations.specs.ConflictList.{conflicts-hold}
 use Rattle.relations.specs.Listed.{listed-out}
 use Rattle.form.specs.Form.{when}
 use Rattle.conflict.specs.declared.Sets.{Sets}
-use Rattle.conflict.specs.Sets.{wayTo, setsOf}
+use Rattle.edges.specs.Local.{wayTo, localOf}
+use Rattle.conflict.specs.Sets.{setsOf}
 use Rattle.words.specs.Tabled.{tabled, rows}
 use Rattle.words.specs.Filled.{tabled-at}
 use Rattle.routes.specs.Plan.{wordAt, exitBy, Planned}
@@ -116,7 +117,7 @@ module _ (body : Body) (b : ℕ) (h : b < 64) where
       alike false = refl
 
   pub row-same : (k : Block) → k ≡ block body b → rowFrom (setsOf body) k b ≡ rowAt body b
-  unfolding setsOf
+  unfolding setsOf localOf
   row-same k e =
       λ i.
       at (λ c. wayTo 1 (exits body c)) i

@@ -166,6 +166,14 @@ module _ (f : ℕ → ℕ → Bool) (none : (b k : ℕ) → 64 ≤ k → f b k �
   unfolding rows
   rows-bit b h k = ap (λ x. bit x k) (tabled-at (λ b. setOf 64 (f b)) 64 b 0 h) ∙ set-bit b k
 
+  pub rows-told : Told 0 (λ b x. (k : ℕ) → bit x k ≡ f b k) 64 64 (rows f)
+  unfolding rows
+  rows-told = record { size = tabled-length (λ b. setOf 64 (f b)) 64; at = rows-bit }
+
+-- the bits of a set of blocks
+pub set-bits : (g : ℕ → Bool) → ((k : ℕ) → 64 ≤ k → g k ≡ false) → (k : ℕ) → bit (setOf 64 g) k ≡ g k
+set-bits g off k = set-bit (λ b. g) (λ b. off) 0 k
+
 -- a word with no bit past 63 is below 2 ^ 64
 pub bits-fit : (g : ℕ → Bool) → ((k : ℕ) → 64 ≤ k → g k ≡ false) → (w : ℕ) → ((k : ℕ) → bit w k ≡ g k) → w < 2 ^ 64
 bits-fit g off w is = subst (λ x. x < 2 ^ 64) (sym (same-bits w (setOf 64 g) (λ k. is k ∙ sym (set-bit (λ b. g) (λ b. off) 0 k)))) (setOf-lt 64 g)

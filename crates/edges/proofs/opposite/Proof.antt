@@ -1,11 +1,11 @@
--- `conflict::opposite` meets its contract.
+-- `edges::opposite` meets its contract.
 use mathlib.Core.Path.{_≡_, refl}
 use native.Mathlib.Omega.{arith}
 use Rattle.form.specs.Relation.{opposite}
 use Rattle.relations.specs.Relations.{above-five}
 use borrow.Author.Needs.{needs}
-use Rattle.conflict.proofs.opposite.Statement.{statement}
-use Rattle.conflict.proofs.opposite.Tie as tie
+use Rattle.edges.proofs.opposite.Statement.{statement}
+use Rattle.edges.proofs.opposite.Tie as tie
 
 returns : tie.Need-returns
 returns c = search needs

@@ -1,7 +1,7 @@
--- `conflict::own_block` meets its contract.
+-- `edges::own_block` meets its contract.
 use borrow.Author.Tests.{lt-ltb, le-ltb}
-use Rattle.conflict.proofs.own_block.Statement.{statement}
-use Rattle.conflict.proofs.own_block.Tie as tie
+use Rattle.edges.proofs.own_block.Statement.{statement}
+use Rattle.edges.proofs.own_block.Tie as tie
 
 returns : tie.Need-returns
 returns c = rw (lt-ltb _ _ (c .if1 .taken))

@@ -1,4 +1,4 @@
--- `conflict::tests_of` meets its contract. The loop's invariant: the blocks below i have their places. The measure is what is left of the 64.
+-- `edges::tests_of` meets its contract. The loop's invariant: the blocks below i have their places. The measure is what is left of the 64.
 use mathlib.Core.Path.{_≡_, refl, ap, _∙_}
 use Prim.Native.Nat.{_-_, _≤_}
 use native.Mathlib.Omega.{arith}
@@ -13,10 +13,10 @@ use Rattle.form.specs.Conflict.{noBlock}
 use Rattle.form.specs.Relation.{opposite}
 use Rattle.relations.specs.Blocks.{taken, beyond}
 use Rattle.words.specs.Filled.{Upto, upto-none, upto-more, upto-end, Told, told-none, told-more, told-end}
-use Rattle.conflict.specs.Parts.{blockIn}
+use Rattle.edges.specs.Parts.{blockIn}
 use borrow.Author.Needs.{needs}
-use Rattle.conflict.proofs.tests_of.Statement.{statement}
-use Rattle.conflict.proofs.tests_of.Tie as tie
+use Rattle.edges.proofs.tests_of.Statement.{statement}
+use Rattle.edges.proofs.tests_of.Tie as tie
 
 abbrev Inv-loop : tie.InvT-loop
 Inv-loop count blocks tests₀ variable₀ jump₀ fall₀ constant₀ i₀ tests variable jump fall constant i =

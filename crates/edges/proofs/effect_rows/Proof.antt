@@ -1,4 +1,4 @@
--- `conflict::effect_rows` meets its contract. The loop's invariant: the rows below b are right, and `from` effects are passed. The measure is what is left of the 64.
+-- `edges::effect_rows` meets its contract. The loop's invariant: the rows below b are right, and `from` effects are passed. The measure is what is left of the 64.
 use mathlib.Core.Path.{_≡_, refl, sym, subst, _∙_}
 use mathlib.Core.Bool.{Bool, not, _&&_, _||_}
 use Prim.Native.Nat.{ℕ, _+_, _-_, _≤_, _<_}
@@ -11,11 +11,11 @@ use Rattle.form.specs.declared.Effect.{Effect}
 use Rattle.form.specs.Conflict.{effectsBelow, effectsOf, noBlock}
 use Rattle.relations.specs.Blocks.{taken}
 use Rattle.relations.specs.Effects.{Reached}
-use Rattle.conflict.specs.Parts.{withParts, TouchedBy, DeniedBy, HitsOf}
-use Rattle.conflict.specs.Turns.{own-effects, next-effects}
+use Rattle.edges.specs.Parts.{withParts, TouchedBy, DeniedBy, HitsOf}
+use Rattle.edges.specs.Turns.{own-effects, next-effects}
 use borrow.Author.Needs.{needs}
-use Rattle.conflict.proofs.effect_rows.Statement.{statement}
-use Rattle.conflict.proofs.effect_rows.Tie as tie
+use Rattle.edges.proofs.effect_rows.Statement.{statement}
+use Rattle.edges.proofs.effect_rows.Tie as tie
 
 abbrev Inv-loop : tie.InvT-loop
 Inv-loop count effects tests variable jump fall constant blocks groups touched₀ by-jump₀ by-fall₀ from₀ b₀ touched by-jump by-fall from b =

@@ -1,4 +1,4 @@
--- `conflict::targets_of` meets its contract. The loop's invariant: the blocks below i have their targets. The measure is what is left of the 64.
+-- `edges::targets_of` meets its contract. The loop's invariant: the blocks below i have their targets. The measure is what is left of the 64.
 use mathlib.Core.Path.{_≡_, refl, ap, _∙_}
 use Prim.Native.Nat.{_-_, _≤_}
 use native.Mathlib.Omega.{arith}
@@ -6,11 +6,11 @@ use lib.ListN.{length}
 use Rattle.form.specs.Conflict.{noBlock}
 use Rattle.relations.specs.Blocks.{taken}
 use Rattle.words.specs.Filled.{Told, told-none, told-more, told-end}
-use Rattle.conflict.specs.Parts.{blockIn}
+use Rattle.edges.specs.Parts.{blockIn}
 use Rattle.relations.specs.Joined.{jumpOf, fallOf}
 use borrow.Author.Needs.{needs}
-use Rattle.conflict.proofs.targets_of.Statement.{statement}
-use Rattle.conflict.proofs.targets_of.Tie as tie
+use Rattle.edges.proofs.targets_of.Statement.{statement}
+use Rattle.edges.proofs.targets_of.Tie as tie
 
 abbrev Inv-loop : tie.InvT-loop
 Inv-loop count blocks jump₀ fall₀ i₀ jump fall i =

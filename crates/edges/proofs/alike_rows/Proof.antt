@@ -1,14 +1,14 @@
--- `conflict::alike_rows` meets its contract. The loop's invariant: the rows below b are right. The measure is what is left of the 64.
+-- `edges::alike_rows` meets its contract. The loop's invariant: the rows below b are right. The measure is what is left of the 64.
 use mathlib.Core.Path.{_≡_, refl, ap₂, _∙_}
 use mathlib.Core.Bool.{_&&_}
 use Prim.Native.Nat.{_-_, _≤_}
 use native.Mathlib.Omega.{arith}
 use lib.ListN.{getD}
 use Rattle.words.specs.Filled.{Told, told-none, told-more, told-end}
-use Rattle.conflict.specs.Parts.{AlikeAt}
+use Rattle.edges.specs.Parts.{AlikeAt}
 use borrow.Author.Needs.{needs}
-use Rattle.conflict.proofs.alike_rows.Statement.{statement}
-use Rattle.conflict.proofs.alike_rows.Tie as tie
+use Rattle.edges.proofs.alike_rows.Statement.{statement}
+use Rattle.edges.proofs.alike_rows.Tie as tie
 
 abbrev Inv-loop : tie.InvT-loop
 Inv-loop tests variable groups r₀ b₀ r b = (b ≤ 64) × Told 0 (AlikeAt tests variable) 64 b r

@@ -1,10 +1,10 @@
--- `conflict::within` meets its contract.
+-- `edges::within` meets its contract.
 use mathlib.Core.Logic.{inl, inr}
 use mathlib.Core.Path.{refl}
 use native.Mathlib.Omega.{arith}
 use borrow.Author.Needs.{needs}
-use Rattle.conflict.proofs.within.Statement.{statement}
-use Rattle.conflict.proofs.within.Tie as tie
+use Rattle.edges.proofs.within.Statement.{statement}
+use Rattle.edges.proofs.within.Tie as tie
 
 sub-left : tie.Need-sub-left
 sub-left c = search needs

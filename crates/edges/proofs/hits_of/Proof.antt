@@ -1,4 +1,4 @@
--- `conflict::hits_of` meets its contract. The loop's invariant: the words are those of the first k effects. The measure is what is left of the effects.
+-- `edges::hits_of` meets its contract. The loop's invariant: the words are those of the first k effects. The measure is what is left of the effects.
 use mathlib.Core.Path.{_≡_}
 use Prim.Native.Nat.{_+_, _-_, _≤_}
 use native.Mathlib.Omega.{arith}
@@ -10,11 +10,11 @@ use mir.Facts.{toZ-ofZ}
 use Rattle.form.specs.declared.Effect.{Effect}
 use Rattle.form.specs.Form.{zeroEffect}
 use Rattle.relations.specs.Effects.{take-next}
-use Rattle.conflict.specs.Parts.{HitsOf}
-use Rattle.conflict.specs.Turns.{hits-none, touched-more, denied-more}
+use Rattle.edges.specs.Parts.{HitsOf}
+use Rattle.edges.specs.Turns.{hits-none, touched-more, denied-more}
 use borrow.Author.Needs.{needs}
-use Rattle.conflict.proofs.hits_of.Statement.{statement}
-use Rattle.conflict.proofs.hits_of.Tie as tie
+use Rattle.edges.proofs.hits_of.Statement.{statement}
+use Rattle.edges.proofs.hits_of.Tie as tie
 
 abbrev Inv-loop : tie.InvT-loop
 Inv-loop tests variable groups jump fall constant from own effects touched₀ by-jump₀ by-fall₀ k₀ touched by-jump by-fall k =

@@ -1,4 +1,4 @@
--- `conflict::opposed` meets its contract. The loop's invariant: the word has those of the set that are not left. The measure is what is left.
+-- `edges::opposed` meets its contract. The loop's invariant: the word has those of the set that are not left. The measure is what is left.
 use mathlib.Core.Path.{_≡_, _∙_}
 use mathlib.Core.Bool.{not}
 use Prim.Native.Nat.{ℕ, _^_, _<_}
@@ -11,8 +11,8 @@ use mir.Facts.{toZ-ofZ}
 use Rattle.relations.specs.PairTest.{shares, test-is}
 use Rattle.words.specs.Sorted.{Sifted, sifted-none, sifted-more, sifted-end}
 use borrow.Author.Needs.{needs}
-use Rattle.conflict.proofs.opposed.Statement.{statement}
-use Rattle.conflict.proofs.opposed.Tie as tie
+use Rattle.edges.proofs.opposed.Statement.{statement}
+use Rattle.edges.proofs.opposed.Tie as tie
 
 abbrev Inv-loop : tie.InvT-loop
 Inv-loop set relations constants relation constant r₀ left₀ r left =

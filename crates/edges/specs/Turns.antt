@@ -16,7 +16,7 @@ use Rattle.form.specs.Relation.{meets}
 use Rattle.form.specs.Conflict.{block, effectsBelow, effectsOf, refuses, lastOn}
 use Rattle.relations.specs.PairTest.{shares, equal-is}
 use Rattle.relations.specs.Effects.{Reached, Within, reached-next, own-part, anyOf-last, refuses-more, touch-turn, deny-turn}
-use Rattle.conflict.specs.Parts.{blockIn, withParts, HitsOf}
+use Rattle.edges.specs.Parts.{blockIn, withParts, HitsOf}
 
 nothing : (j : ℕ) (t : Bool) → bit 0 j ≡ (t && false)
 nothing j true = bit-none j

@@ -1,14 +1,14 @@
--- `conflict::tests_by_variable` meets its contract. The loop's invariant: the tests below i are sorted. The measure is what is left of the 64.
+-- `edges::tests_by_variable` meets its contract. The loop's invariant: the tests below i are sorted. The measure is what is left of the 64.
 use mathlib.Core.Path.{refl}
 use Prim.Native.Nat.{_-_, _≤_}
 use native.Mathlib.Omega.{arith}
 use lib.ListN.{getD, length}
 use Rattle.laws.specs.Terms.{bit}
 use Rattle.words.specs.Sorted.{Sorted, sorted-none, sorted-more}
-use Rattle.conflict.specs.Sorting.{on-variable-end}
+use Rattle.edges.specs.Sorting.{on-variable-end}
 use borrow.Author.Needs.{needs}
-use Rattle.conflict.proofs.tests_by_variable.Statement.{statement}
-use Rattle.conflict.proofs.tests_by_variable.Tie as tie
+use Rattle.edges.proofs.tests_by_variable.Statement.{statement}
+use Rattle.edges.proofs.tests_by_variable.Tie as tie
 
 abbrev Inv-loop : tie.InvT-loop
 Inv-loop tests variable r₀ i₀ r i = (i ≤ 64) × Sorted 256 (λ j. getD variable j 0) (bit tests) i r

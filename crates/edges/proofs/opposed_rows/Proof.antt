@@ -1,4 +1,4 @@
--- `conflict::opposed_rows` meets its contract. The loop's invariant: the rows below b are right. The measure is what is left of the 64.
+-- `edges::opposed_rows` meets its contract. The loop's invariant: the rows below b are right. The measure is what is left of the 64.
 use mathlib.Core.Path.{refl}
 use Prim.Native.Nat.{_-_, _≤_}
 use native.Mathlib.Omega.{arith}
@@ -8,9 +8,9 @@ use mir.Syntax.{w32}
 use mir.Val.{SFits}
 use mir.Facts.{toZ-ofZ}
 use Rattle.words.specs.Filled.{Told, told-none, told-more, told-end}
-use Rattle.conflict.specs.Parts.{OpposedAt}
-use Rattle.conflict.proofs.opposed_rows.Statement.{statement}
-use Rattle.conflict.proofs.opposed_rows.Tie as tie
+use Rattle.edges.specs.Parts.{OpposedAt}
+use Rattle.edges.proofs.opposed_rows.Statement.{statement}
+use Rattle.edges.proofs.opposed_rows.Tie as tie
 
 abbrev Inv-loop : tie.InvT-loop
 Inv-loop alike first second constant r₀ b₀ r b = (b ≤ 64) × Told 0 (OpposedAt alike first second constant) 64 b r
