@@ -1,16 +1,12 @@
--- What the contracts leave: one number of entries; one answer and one content of the lent bytes. Rests on Answer.
+-- What the contract leaves: one answer and one content of the lent bytes. Rests on Answer.
 use mathlib.Core.Path.{_≡_, sym, ap, _∙_}
 use mathlib.Core.List.{List}
 use Prim.Native.Nat.{ℕ}
 use lib.ListN.{length}
-use Rattle.form.specs.declared.Body.{Body}
 use Rattle.form.specs.Form.{bodyOf}
-use Rattle.form.specs.Conflict.{conflicts, conflictBytes}
+use Rattle.form.specs.Conflict.{conflictBytes}
 use Rattle.listing.specs.declared.Listed.{Listed}
 use Rattle.listing.specs.Answer.{listing, heldAfter}
-
-pub one-entries : (body : Body) (a b : ℕ) → a ≡ length (conflicts body) → b ≡ length (conflicts body) → a ≡ b
-one-entries body a b p q = p ∙ sym q
 
 -- ---- the list: the answer, and the lent bytes after it
 

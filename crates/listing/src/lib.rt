@@ -6,7 +6,7 @@ ghost use lib.ListN.{length};
 ghost use lib.Seq.{sets};
 ghost use lib.Count.{ones};
 ghost use Rattle.form.specs.Form.{bodyOf};
-ghost use Rattle.form.specs.Conflict.{Sound, conflicts, conflictBytes};
+ghost use Rattle.form.specs.Conflict.{Sound, conflictBytes};
 ghost use Rattle.listing.specs.Laying.{entryBytes, wordBytes, edgeBytes};
 ghost use Rattle.listing.specs.Listing.{allBytes, bitsOf, Rows};
 ghost use Rattle.listing.specs.Answer.{listedIn, listing, heldAfter};
@@ -165,15 +165,6 @@ fn found_entries(out: &mut [u8], f: conflict::Found) -> usize
     let j2 = q.jump;
     let f2 = q.fall;
     all_entries(out, &variable, &a1, &j1, &f1, &a2, &j2, &f2)
-}
-
-// How many entries the conflict list of a body has.
-pub fn entries_of(body: form::Body) -> usize
-    requires { ⌜ Sound body ⌝ }
-    ensures { λ r. ⌜ (r ≡ length (conflicts body)) × (r ≤ 24576) ⌝ }
-{
-    let f = conflict::find(body);
-    found_number(f)
 }
 
 fn list_of(body: form::Body, out: &mut [u8]) -> Listed

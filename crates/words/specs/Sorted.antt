@@ -6,7 +6,7 @@ use mathlib.Core.List.{List}
 use mathlib.Core.Logic.{_⊎_, inl, inr}
 use Prim.Native.Nat.{ℕ, zero, suc, _+_, _^_, _≤_, _<_}
 use native.Mathlib.Omega.{arith}
-use borrow.Author.Tests.{eqb-true, eqb-false}
+use borrow.Author.Tests.{eqb-true, eqb-false, ne-eqb}
 use lib.Count.{trailingZeros}
 use lib.Dec.{eqb}
 use lib.ListN.{length, getD, set, replicate, length-set, length-replicate, getD-replicate}
@@ -14,7 +14,14 @@ use lib.Seq.{getD-set-same, getD-set-other}
 use Rattle.laws.specs.Terms.{bit, any}
 use Rattle.laws.specs.Tests.{split, clash, any-in, eqb-swap}
 use Rattle.laws.specs.Sets.{bit-none, trailing-lt, trailing-at, trailing-below, below-or-not}
+use Rattle.words.specs.Tabled.{least}
 use Rattle.words.specs.Filled.{Upto, upto-none, upto-more, upto-end, any-last}
+
+pub least-some : (x : ℕ) → 0 < x → least x ≡ trailingZeros 64 x
+least-some x some = rw (ne-eqb x 0 (λ e. not-zero some e))
+  where
+    not-zero : 0 < x → x ≡ 0 → ⊥
+    not-zero some e = omega arith
 
 -- ---- the numbers of a word with a test, taken out of the word one by one
 
@@ -32,16 +39,19 @@ module _ (f : ℕ → Bool) (word : ℕ) where
       none false b = refl
 
   pub sifted-more :
-      (left result left′ result′ at : ℕ) (t : Bool) → Sifted f word left result → left < 2 ^ 64 → 0 < left → (0 < left → at ≡ trailingZeros 64 left) → t ≡ f at
+      (left result left′ result′ at : ℕ) (t : Bool) → Sifted f word left result → left < 2 ^ 64 → 0 < left → at ≡ least left → t ≡ f at
       → ((k : ℕ) → bit result′ k ≡ bit result k || (t && eqb k at)) → ((k : ℕ) → bit left′ k ≡ bit left k && not (eqb k (trailingZeros 64 left)))
       → Sifted f word left′ result′
-  sifted-more left result left′ result′ at t s fits some least e new less = record { part = part; out = out }
+  sifted-more left result left′ result′ at t s fits some lowest e new less = record { part = part; out = out }
     where
+      is : at ≡ trailingZeros 64 left
+      is = lowest ∙ least-some left some
+
       there : bit left at ≡ true
-      there = subst (λ (k : ℕ). bit left k ≡ true) (sym (least some)) (trailing-at 64 left (trailing-lt 64 fits some))
+      there = subst (λ (k : ℕ). bit left k ≡ true) (sym is) (trailing-at 64 left (trailing-lt 64 fits some))
 
       less-at : (k : ℕ) → bit left′ k ≡ (bit left k && not (eqb k at))
-      less-at k = less k ∙ ap (λ (m : ℕ). bit left k && not (eqb k m)) (sym (least some))
+      less-at k = less k ∙ ap (λ (m : ℕ). bit left k && not (eqb k m)) (sym is)
 
       kept : (a b : Bool) → (a && b) ≡ true → a ≡ true
       kept true b e = refl

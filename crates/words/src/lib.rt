@@ -6,6 +6,7 @@ ghost use Prim.Native.Nat.{ℕ, _<_};
 ghost use lib.Count.{trailingZeros};
 ghost use lib.Dec.{eqb};
 ghost use Rattle.laws.specs.Terms.{bit};
+ghost use Rattle.words.specs.Tabled.{least};
 
 // Whether k is in x.
 pub fn has(x: u64, k: usize) -> bool
@@ -15,7 +16,7 @@ pub fn has(x: u64, k: usize) -> bool
 }
 
 // x with k.
-pub fn with(x: u64, k: usize) -> u64
+fn with(x: u64, k: usize) -> u64
     requires { ⌜ k < 64 ⌝ }
     ensures { λ r. ⌜ ((j : ℕ) → bit r j ≡ bit x j || eqb j k) ⌝ }
 {
@@ -60,7 +61,7 @@ pub fn less(a: u64, b: u64) -> u64
 
 // The least number in x; 0 where there is none.
 pub fn lowest(x: u64) -> usize
-    ensures { λ r. ⌜ (r < 64) × (0 < x → r ≡ trailingZeros 64 x) ⌝ }
+    ensures { λ r. ⌜ (r < 64) × (r ≡ least x) ⌝ }
 {
     if x == 0 {
         return 0;

@@ -1,5 +1,5 @@
 -- `conflict::lowest_firsts` meets its contract. The loop's invariant: the edges below s are sorted. The measure is what is left of the 64.
-use mathlib.Core.Path.{refl}
+use mathlib.Core.Path.{refl, _∙_}
 use mathlib.Core.Bool.{not}
 use Prim.Native.Nat.{_-_, _≤_}
 use native.Mathlib.Omega.{arith}
@@ -7,7 +7,7 @@ use lib.Count.{trailingZeros}
 use lib.Dec.{eqb}
 use lib.ListN.{getD, length}
 use Rattle.laws.specs.Sets.{test-true}
-use Rattle.words.specs.Sorted.{Sorted, sorted-none, sorted-more}
+use Rattle.words.specs.Sorted.{Sorted, sorted-none, sorted-more, least-some}
 use Rattle.conflict.specs.Sorting.{lowest-firsts-end}
 use borrow.Author.Needs.{needs}
 use Rattle.conflict.proofs.lowest_firsts.Statement.{statement}
@@ -56,7 +56,7 @@ loop-again c =
     let firsts = at .before .before .args .firsts .now in (
       omega arith,
       sorted-more 64 (λ j. trailingZeros 64 (getD firsts j 0)) (λ j. not (eqb (getD firsts j 0) 0)) (at .loop .s) _ _ _ _ (at .loop .inv .1)
-          (λ t. low .lowest .ensures .1 (test-true t)) (low .lowest .ensures .0) refl (c .put .ensures),
+          (λ t. low .lowest .ensures .1 ∙ least-some _ (test-true t)) (low .lowest .ensures .0) refl (c .put .ensures),
     )
 
 returns : tie.Need-returns Inv-loop μ-loop
