@@ -4,9 +4,8 @@ use Prim.Native.Nat.{ℕ, _/_}
 use lib.ListN.{length, replicate}
 use Rattle.form.specs.declared.Verdict.{Verdict}
 use Rattle.form.specs.declared.Written.{Written}
-use Rattle.form.specs.declared.Written.the-variants.{Bytes, Unwritten}
 use Rattle.form.specs.Form.{when, judge, bodyOf, lay}
-use Rattle.form.specs.Answer.{accepted, numberOf, placeOf, written, heldAfter}
+use Rattle.form.specs.Answer.{accepted, numberOf, placeOf, writtenNumber, writtenPlace, written, heldAfter}
 use Rattle.counter.specs.Answer as Counter
 use Rattle.routes.specs.WalkAnswer as Walk
 use Rattle.routes.specs.SweepAnswer as Sweep
@@ -28,8 +27,7 @@ verdictAnswer v = formAnswer (numberOf v) (placeOf v)
 
 -- The writer's answer; with number 0 the place is the number of bytes written
 abbrev pub writtenAnswer : Written → FormAnswer
-writtenAnswer (Bytes count) = formAnswer 0 count
-writtenAnswer (Unwritten number place) = formAnswer number place
+writtenAnswer w = formAnswer (writtenNumber w) (writtenPlace w)
 
 -- The form read, and its body written back
 abbrev pub rewriteAnswer : List ℕ → ℕ → FormAnswer
@@ -81,9 +79,9 @@ sweepValues answer =
       kept = answer .kept;
     }
 
-abbrev pub sweepOutcome : SweepNumbers → (route table : List ℕ) → Sweep.Outcome
-sweepOutcome answer route table = record { values = sweepValues answer; route = route; table = table }
+abbrev pub sweptOutcome : SweepNumbers → (route table : List ℕ) → Sweep.Outcome
+sweptOutcome answer route table = record { values = sweepValues answer; route = route; table = table }
 
 -- The sweep over a table of 1,536 zero entries of its own, whatever that holds afterwards
 abbrev pub OwnSweepOwed : (form route : List ℕ) → SweepNumbers → List ℕ → Type 0
-OwnSweepOwed form route answer held = (table : List ℕ) × Sweep.SweepOwed form route (replicate 7680 0) (sweepOutcome answer held table)
+OwnSweepOwed form route answer held = (table : List ℕ) × Sweep.SweepOwed form route (replicate 7680 0) (sweptOutcome answer held table)

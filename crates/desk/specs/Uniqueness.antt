@@ -19,7 +19,7 @@ use Rattle.desk.specs.declared.FormAnswer.{FormAnswer}
 use Rattle.desk.specs.declared.ListNumbers.{ListNumbers}
 use Rattle.desk.specs.declared.SweepNumbers.{SweepNumbers}
 use Rattle.desk.specs.declared.WalkNumbers.{WalkNumbers}
-use Rattle.desk.specs.Answer.{verdictAnswer, rewriteAnswer, rewriteHeld, countValues, listNumbers, walkValues, sweepOutcome, OwnSweepOwed}
+use Rattle.desk.specs.Answer.{verdictAnswer, rewriteAnswer, rewriteHeld, countValues, listNumbers, walkValues, sweptOutcome, OwnSweepOwed}
 
 pub one-count :
     (initial step : ℤ) (relation : ℕ) (limit : ℤ) (a b : CountAnswer) → Owed initial step relation limit (countValues a)
@@ -66,10 +66,10 @@ one-walk form budget route held held′ a b o p =
     )
 
 pub one-sweep-table :
-    (form route table held held′ rows rows′ : List ℕ) (a b : SweepNumbers) → Sweep.SweepOwed form route table (sweepOutcome a held rows)
-    → Sweep.SweepOwed form route table (sweepOutcome b held′ rows′) → (a ≡ b) × ((held ≡ held′) × (rows ≡ rows′))
+    (form route table held held′ rows rows′ : List ℕ) (a b : SweepNumbers) → Sweep.SweepOwed form route table (sweptOutcome a held rows)
+    → Sweep.SweepOwed form route table (sweptOutcome b held′ rows′) → (a ≡ b) × ((held ≡ held′) × (rows ≡ rows′))
 one-sweep-table form route table held held′ rows rows′ a b o p =
-    let e = Routes.owed-once form (Sweep.refused route table) (Sweep.sweepOutcome (bodyOf form) route table) (sweepOutcome a held rows) (sweepOutcome b held′ rows′) o p in (
+    let e = Routes.owed-once form (Sweep.refused route table) (Sweep.sweepOutcome (bodyOf form) route table) (sweptOutcome a held rows) (sweptOutcome b held′ rows′) o p in (
       (λ i.
           record {
             number = e i .values .number;

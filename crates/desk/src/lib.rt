@@ -10,7 +10,7 @@ ghost use Rattle.listing.specs.Answer.{listing, heldAfter};
 ghost use Rattle.counter.specs.Answer.{Owed};
 ghost use Rattle.routes.specs.WalkAnswer.{said, WalkOwed};
 ghost use Rattle.routes.specs.SweepAnswer.{SweepOwed};
-ghost use Rattle.desk.specs.Answer.{countValues, walkNumbers, walkValues, sweepNumbers, sweepValues, sweepSaid, sweepOutcome, OwnSweepOwed, listNumbers, formAnswer, verdictAnswer, writtenAnswer, rewriteAnswer, rewriteHeld};
+ghost use Rattle.desk.specs.Answer.{countValues, walkNumbers, walkValues, sweepNumbers, sweepValues, sweepSaid, sweptOutcome, OwnSweepOwed, listNumbers, formAnswer, verdictAnswer, writtenAnswer, rewriteAnswer, rewriteHeld};
 use counter::Counted;
 use form::Verdict;
 use form::Written;
@@ -252,7 +252,7 @@ pub extern "C" fn somniaret_sweep_table(
     table: &mut [u64],
     route: &mut [u8],
 ) -> SweepNumbers
-    ensures { λ r. ⌜ SweepOwed (now (bytes .entry)) (now (route .entry)) (now (table .entry)) (sweepOutcome r (now (route .exit)) (now (table .exit))) ⌝ }
+    ensures { λ r. ⌜ SweepOwed (now (bytes .entry)) (now (route .entry)) (now (table .entry)) (sweptOutcome r (now (route .exit)) (now (table .exit))) ⌝ }
 {
     of_sweep(routes::sweep::sweep(bytes, table, route))
 }

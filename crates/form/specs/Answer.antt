@@ -1,4 +1,4 @@
--- The answers of the lower layer's calls. Trusted: for each answer that is an enum, document 01's number and place for each of its cases, and
+-- The answers of the reader and the writer. Trusted: for each answer that is an enum, document 01's number and values for each of its cases, and
 -- what each call answers. A refusal's number is as tabled; 0 stands for none. Rests on Form.
 use mathlib.Core.Bool.{Bool, true, false, not}
 use mathlib.Core.List.{List, _++_}
@@ -29,19 +29,20 @@ accepted (Refused number place) = false
 abbrev pub reading : List ℕ → Reading
 reading s = record { verdict = judge s; body = when (accepted (judge s)) (bodyOf s) zeroBody }
 
--- The writer: 14 for its counts, then what the reader says of the laid-out bytes, then 42 with the bytes needed; else how many bytes are written
 abbrev pub writtenNumber : Written → ℕ
 writtenNumber (Bytes count) = 0
 writtenNumber (Unwritten number place) = number
 
+-- Of a form that is written, how many bytes it has.
 abbrev pub writtenPlace : Written → ℕ
-writtenPlace (Bytes count) = 0
+writtenPlace (Bytes count) = count
 writtenPlace (Unwritten number place) = place
 
 abbrev pub asJudged : Verdict → Written → Written
 asJudged Accepted rest = rest
 asJudged (Refused number place) rest = Unwritten number place
 
+-- The writer: 14 for its counts, then what the reader says of the laid-out bytes, then 42 with the bytes needed; else how many bytes are written
 abbrev pub written : Body → ℕ → Written
 written body room =
     when (countsFit body)

@@ -27,7 +27,7 @@ use Rattle.relations.specs.Conditions.{contradict-says}
 use Rattle.relations.specs.Loops.{countOf, count-found}
 use Rattle.relations.specs.Steps.{later, first, within, found-none, found-some}
 use Rattle.theory.specs.Route.{Path, stepCost, paths, conflict, tails, weight, best, bestRoute, wayOf, routeBytes}
-use Rattle.marked.specs.Table.{Case, counts, refused, apart, together, route, on, Claim, table}
+use Rattle.marked.specs.Table.{Case, counts, refused, conflicting, compatible, route, on, Claim, table}
 
 fits : ℤ → Bool
 fits z = ltb (mag z) (2 ^ 31)
@@ -54,8 +54,8 @@ bytesOf body (some best) = routeBytes body (best .1)
 right : Case → Bool
 right (counts initial step relation limit k) = fits initial && (ltb 0 k && eqb (countOf initial step relation limit) k)
 right (refused initial step relation limit) = fits initial && eqb (countOf initial step relation limit) 0
-right (apart r c q d) = contradict (on r c) (on q d)
-right (together r c q d) = not (contradict (on r c) (on q d))
+right (conflicting r c q d) = contradict (on r c) (on q d)
+right (compatible r c q d) = not (contradict (on r c) (on q d))
 right (route form bytes) =
     accepted (judge form)
     && (ltb 0 (length bytes) && alike (bytesOf (bodyOf form) (bestRoute (bodyOf form) (stepCost (bodyOf form)) heavier)) bytes)
@@ -90,8 +90,8 @@ law (refused initial step relation limit) h =
     let (f, e) = and-out (fits initial) _ h in
     found-none (Count initial step relation limit) _ (eqb-true (countOf initial step relation limit) 0 e)
     (count-found initial (fits-out initial f) relation limit step)
-law (apart r c q d) h = contradict-says (on r c) (on q d) .0 h
-law (together r c q d) h = λ x. clash (contradict-says (on r c) (on q d) .1 x) (not-out _ h)
+law (conflicting r c q d) h = contradict-says (on r c) (on q d) .0 h
+law (compatible r c q d) h = λ x. clash (contradict-says (on r c) (on q d) .1 x) (not-out _ h)
 law (route form bytes) h =
     let (a, r) = and-out (accepted (judge form)) _ h in
     let (p, e) = and-out (ltb 0 (length bytes)) _ r in (

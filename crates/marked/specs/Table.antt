@@ -17,8 +17,8 @@ pub data Case : Type 0 where
   counts : ℤ → ℤ → ℕ → ℤ → ℕ → Case
   refused : ℤ → ℤ → ℕ → ℤ → Case
   -- two conditions on one variable, relation and constant each, conflict, or do not
-  apart : ℕ → ℤ → ℕ → ℤ → Case
-  together : ℕ → ℤ → ℕ → ℤ → Case
+  conflicting : ℕ → ℤ → ℕ → ℤ → Case
+  compatible : ℕ → ℤ → ℕ → ℤ → Case
   -- a form, and the route bytes of its first heaviest conflict-free route
   route : List ℕ → List ℕ → Case
 
@@ -28,8 +28,8 @@ on relation constant = record { variable = 0; relation = relation; constant = co
 abbrev pub Claim : Case → Type 0
 Claim (counts initial step relation limit k) = Count initial step relation limit k
 Claim (refused initial step relation limit) = (k : ℕ) → Count initial step relation limit k → ⊥
-Claim (apart r c q d) = Contradict (on r c) (on q d)
-Claim (together r c q d) = Contradict (on r c) (on q d) → ⊥
+Claim (conflicting r c q d) = Contradict (on r c) (on q d)
+Claim (compatible r c q d) = Contradict (on r c) (on q d) → ⊥
 Claim (route form bytes) =
     (judge form ≡ Accepted)
     × ((best : ℕ × Path) × (bestRoute (bodyOf form) (stepCost (bodyOf form)) heavier ≡ some best) × (routeBytes (bodyOf form) (best .1) ≡ bytes))
@@ -59,9 +59,9 @@ table =
     ∷ counts (pos 7) (pos 1) 0 (pos 8) 2
     ∷ refused (pos 2147483646) (pos 1) 5 (pos 2147483647)
     ∷ counts (pos 2147483646) (pos 1) 2 (pos 2147483647) 1
-    ∷ apart 4 (pos 2) 2 (pos 3)
-    ∷ together 4 (pos 2) 2 (pos 4)
-    ∷ apart 0 (pos 5) 1 (pos 5)
-    ∷ together 3 (pos 2) 5 (pos 2)
+    ∷ conflicting 4 (pos 2) 2 (pos 3)
+    ∷ compatible 4 (pos 2) 2 (pos 4)
+    ∷ conflicting 0 (pos 5) 1 (pos 5)
+    ∷ compatible 3 (pos 2) 5 (pos 2)
     ∷ route trainersForm (1 ∷ 0 ∷ 1 ∷ 2 ∷ 0 ∷ 2 ∷ 1 ∷ 3 ∷ [])
     ∷ []
