@@ -21,15 +21,15 @@ use Rattle.routes.specs.Owed.{CountOf}
 use Rattle.routes.specs.Owed.Owed.{no-form, no-count, counted}
 use Rattle.routes.specs.SweepTerms as flat
 use Rattle.routes.specs.SweepAnswer as routes
-use Rattle.routes.specs.SweepAnswer.{Values, refusal, said, rowsOf}
+use Rattle.routes.specs.SweepAnswer.{Values, refusal, said, outcomeOf, refused, rowsOf}
 use Rattle.routes.specs.declared.sweep.SweepAnswer.{SweepAnswer}
 use Rattle.routes.specs.declared.sweep.SweepAnswer.the-variants.{Routed, Refused}
 use Rattle.table.specs.declared.Entry.{Entry}
 use Rattle.table.specs.declared.Rows.{Rows}
 use Rattle.table.specs.declared.Swept.{Swept}
-use Rattle.table.specs.Answer.{entryFrom, noEntry, tableWith, Outcome, outcomeOf, refused, routed, swept, sweepOutcome, TableOwed}
+use Rattle.table.specs.Answer.{entryFrom, noEntry, tableWith, TableOwed}
 use Rattle.table.specs.Stored.{entryAt, stored}
-use Rattle.table.specs.Words.{words, words-at, words-length, rowsFrom, rows-words}
+use Rattle.table.specs.Words.{words, words-at, words-length, rowsFrom, rows-words, Outcome, routed, swept, sweepOutcome}
 use Rattle.table.specs.Swept.{blocks, few-blocks, rowsFor, rows-within, lentWords, SweptWords}
 
 -- ---- what is stored

@@ -10,12 +10,13 @@ use Rattle.theory.specs.Route.{Path, stepCost}
 use Rattle.theory.specs.Run.{Run, runCost}
 use Rattle.routes.specs.Accepted.{owed-once}
 use Rattle.routes.specs.SweepAnswer as routes
+use Rattle.routes.specs.SweepAnswer.{outcomeOf, refused}
 use Rattle.routes.specs.SweepPromise.{one-sweep, sweep-sound}
 use Rattle.routes.specs.declared.sweep.SweepAnswer.{SweepAnswer}
 use Rattle.routes.specs.declared.sweep.SweepAnswer.the-variants.{Routed}
 use Rattle.table.specs.declared.Entry.{Entry}
-use Rattle.table.specs.Answer.{Outcome, outcomeOf, refused, sweepOutcome, TableOwed, ownTable, OwnTableOwed}
-use Rattle.table.specs.Words.{words, owed-words}
+use Rattle.table.specs.Answer.{TableOwed, ownTable, OwnTableOwed}
+use Rattle.table.specs.Words.{words, Outcome, sweepOutcome, owed-words}
 
 module _ (form route : List ℕ) (lent : List Entry) where
   pub as-flat : (a b : SweepAnswer) (held held′ : List ℕ) (table : List Entry) (flat-table : List ℕ) → TableOwed form route lent (outcomeOf a held table)

@@ -19,9 +19,9 @@ use Rattle.routes.specs.Owed.Owed.{no-form, no-count, counted}
 use Rattle.routes.specs.SweepTerms as flat
 use Rattle.routes.specs.SweepTerms.{flat}
 use Rattle.routes.specs.SweepAnswer as routes
-use Rattle.routes.specs.SweepAnswer.{rowsOf}
+use Rattle.routes.specs.SweepAnswer.{OutcomeOver, refused, rowsOf, routedOver, sweptOver, outcomeOver}
 use Rattle.table.specs.declared.Entry.{Entry}
-use Rattle.table.specs.Answer.{entryFrom, noEntry, tableWith, Outcome, refused, routed, swept, sweepOutcome, TableOwed}
+use Rattle.table.specs.Answer.{entryFrom, noEntry, tableWith, under, TableOwed}
 use Rattle.table.specs.Stored.{entryAt}
 
 -- the words of entries: jump set, fall set, weight, the blocks left by jump or go, the blocks left by fall
@@ -103,9 +103,21 @@ module _ (rows : ℕ → List theory.Entry) where
 
 -- ---- the outcome
 
+abbrev pub Outcome : Type 0
+Outcome = OutcomeOver (List Entry)
+
+abbrev pub routed : Body → (route : List ℕ) → (table : List Entry) → (count : ℕ) → Option (ℕ × Path) → Outcome
+routed = routedOver tableWith
+
+abbrev pub swept : Body → (route : List ℕ) → (table : List Entry) → (count : ℕ) → Option ℕ → Outcome
+swept = sweptOver tableWith
+
+abbrev pub sweepOutcome : Body → (route : List ℕ) → (table : List Entry) → (count : ℕ) → Outcome
+sweepOutcome = outcomeOver tableWith under
+
 -- a table under 64 entries a block has under five times as many words
-under : (n m : ℕ) → ltb n m ≡ ltb (5 * n) (5 * m)
-under n m = by (ltb n m) refl
+five-under : (n m : ℕ) → ltb n m ≡ ltb (5 * n) (5 * m)
+five-under n m = by (ltb n m) refl
   where
     by : (t : Bool) → ltb n m ≡ t → t ≡ ltb (5 * n) (5 * m)
     by true e = sym (lt-ltb (5 * n) (5 * m) (omega (arith, ltb-true n m e)))
@@ -130,7 +142,7 @@ module _ (body : Body) (route : List ℕ) (lent : List Entry) (k : ℕ) where
 
   outcome-words : inWords (sweepOutcome body route lent k) ≡ routes.sweepOutcome body route (words lent) k
   outcome-words = by (ltb (length route) (body .count)) (ltb (length lent) (64 * body .count))
-      (ltb (length (words lent)) (5 * (64 * body .count))) (under (length lent) (64 * body .count) ∙ ap (λ n. ltb n (5 * (64 * body .count))) (sym (words-length lent)))
+      (ltb (length (words lent)) (5 * (64 * body .count))) (five-under (length lent) (64 * body .count) ∙ ap (λ n. ltb n (5 * (64 * body .count))) (sym (words-length lent)))
     where
       crowd : Option ℕ
       crowd = crowded body (stepCost body) heavier

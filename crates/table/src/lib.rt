@@ -4,7 +4,8 @@
 ghost use mathlib.Core.Path.{_≡_};
 ghost use Prim.Native.Nat.{min, _+_, _*_, _≤_};
 ghost use lib.ListN.{length};
-ghost use Rattle.table.specs.Answer.{outcomeOf, TableOwed, OwnTableOwed};
+ghost use Rattle.routes.specs.SweepAnswer.{outcomeOf};
+ghost use Rattle.table.specs.Answer.{TableOwed, OwnTableOwed};
 ghost use Rattle.table.specs.Stored.{entryAt, stored};
 ghost use Rattle.table.specs.Swept.{blocks, rowsFor, SweptWords};
 use routes::sweep::SweepAnswer;

@@ -49,7 +49,8 @@ use Rattle.routes.proofs.sweep.SweepAnswer as S
 use Rattle.routes.proofs.sweep.SweepAnswer.Laws as S′
 use Rattle.table.specs.declared.Entry.{Entry}
 use Rattle.table.specs.declared.Swept.{Swept}
-use Rattle.table.specs.Answer.{outcomeOf, TableOwed}
+use Rattle.routes.specs.SweepAnswer.{outcomeOf}
+use Rattle.table.specs.Answer.{TableOwed}
 use Rattle.table.specs.Stored.{stored}
 use Rattle.table.specs.Swept.{SweptWords}
 use Rattle.table.specs.Promise.{room-enough, words-enough, table-owed}

@@ -47,7 +47,8 @@ use Rattle.routes.specs.declared.sweep.SweepAnswer.{SweepAnswer}
 use Rattle.routes.proofs.sweep.SweepAnswer as S
 use Rattle.routes.proofs.sweep.SweepAnswer.Laws as S′
 use Rattle.table.specs.declared.Entry.{Entry}
-use Rattle.table.specs.Answer.{noEntry, outcomeOf, TableOwed}
+use Rattle.routes.specs.SweepAnswer.{outcomeOf}
+use Rattle.table.specs.Answer.{noEntry, TableOwed}
 use Rattle.table.proofs.Lent.{big-lit, arrayTy, repeated-length, repeated-typed, repeated-out, array-in}
 use Rattle.table.proofs.Entry as T
 use Rattle.table.proofs.Entry.Laws as T′
