@@ -11,6 +11,8 @@ use Prim.Native.Nat.{ℕ, zero, suc, _+_, _≤_, _<_}
 use lib.Dec.{eqb, ltb}
 use lib.IntN.{ℤ, pos, _+ℤ_, _-ℤ_}
 use lib.ListN.{getD, take, drop}
+use mir.Syntax.{w32}
+use mir.Val.{SFits}
 use Rattle.laws.specs.Terms.{Mem, each, anyOf, range, pairb}
 use Rattle.form.specs.declared.Body.{Body}
 use Rattle.form.specs.declared.Block.{Block}
@@ -76,6 +78,7 @@ pub record Sound (body : Body) : Type 0 where
   pub onward : Onward body
   pub going : (b : ℕ) → suc b < body .count → (o : ℕ × ℕ) × Mem o (exits body b)  -- every block but the last has an exit
   pub known : (b : ℕ) → block body b .relation ≤ 5
+  pub fits : (b : ℕ) (a : Effect) → Mem a (effectsOf body b) → SFits w32 (a .constant)
 
 -- ---- conditions
 

@@ -2,7 +2,7 @@
 -- Sound, which routes and conflicts ask for, follows. Blocks and effects are taken up to their counts; past them stand zeros, for which every fact holds too, so
 -- none asks for a place below the count. Rests on Form and Conflict; the proof on Acceptance.
 use mathlib.Core.Bool.{Bool, true, _||_, _&&_}
-use mathlib.Core.List.{List, _∷_}
+use mathlib.Core.List.{List, [], _∷_}
 use mathlib.Core.Logic.{inl, inr}
 use mathlib.Core.Path.{_≡_, refl, ap, sym, subst, _∙_}
 use Prim.Native.Nat.{ℕ, zero, suc, _+_, _<_, _≤_}
@@ -11,7 +11,7 @@ use native.Mathlib.Omega.{arith}
 use borrow.Author.Tests.{leb-false, ltb-false, lt-ltb, le-leb, eq-eqb}
 use lib.Dec.{ltb, leb, eqb, lit<, lit≤}
 use lib.IntN.{pos}
-use lib.ListN.{length, getD, take}
+use lib.ListN.{length, getD, take, drop}
 use lib.Seq.{getD-take}
 use mir.Syntax.{w32}
 use mir.Val.{SFits, toZ}
@@ -21,8 +21,8 @@ use Rattle.form.specs.declared.Block.{Block}
 use Rattle.form.specs.declared.Effect.{Effect}
 use Rattle.form.specs.declared.Body.{Body}
 use Rattle.form.specs.declared.Verdict.the-variants.{Accepted}
-use Rattle.form.specs.Form.{byteAt, number4, isBlock, recordsFrom, endFault, someTarget, judgeEnds, judge, gather, ownEffects, blockAt, effectAt, blocksIn, effectsIn, zeroBlock, zeroEffect, bodyOf, sumOwn, countsFit}
-use Rattle.form.specs.Conflict.{block as block-of, exitsBy, exits, Onward, Sound}
+use Rattle.form.specs.Form.{byteAt, number4, isBlock, recordsFrom, endFault, someTarget, judgeEnds, judge, gather, ownEffects, blockAt, effectAt, blocksIn, effectsIn, zeroBlock, zeroEffect, fill, bodyOf, sumOwn, countsFit}
+use Rattle.form.specs.Conflict.{block as block-of, effectsBelow, effectsOf, exitsBy, exits, Onward, Sound}
 use Rattle.form.specs.Laying.{blocksCounted}
 use Rattle.roundtrip.specs.Digits.{zero-fits, signed-fits}
 use Rattle.roundtrip.specs.Filled.{effectsCounted, fill-length}
@@ -278,16 +278,48 @@ module _ (body : Body) (w : WellFormed body) where
         inside = λ b. by-exits (λ t. t < body .count) _ _ _ (w .blocks b .jump-inside) (w .blocks b .fall-inside);
       }
 
-  pub is-sound : Sound body
+  pub is-sound : ((b : ℕ) (e : Effect) → Mem e (effectsOf body b) → SFits w32 (e .constant)) → Sound body
   unfolding exits block-of
-  is-sound =
+  is-sound fits =
       record {
         some = w .some-block;
         few = w .few-blocks;
         onward = onward;
         going = λ b l. ((1, blockOf body b .jump), left-by-jump _ _ (blockOf body b .fall) (w .blocks b .only-last l) (w .blocks b .ending));
         known = λ b. w .blocks b .relation;
+        fits = fits;
       }
 
+-- what holds of every place holds of every element
+module _ {A : Type 0} (P : A → Type 0) (z : A) where
+  of-places : (l : List A) → ((i : ℕ) → P (getD l i z)) → (x : A) → Mem x l → P x
+  of-places (y ∷ l) h x (inl e) = subst P (sym e) (h 0)
+  of-places (y ∷ l) h x (inr m) = of-places l (λ i. h (suc i)) x m
+
+  of-filled : (n : ℕ) (l : List A) → P z → ((i : ℕ) → P (getD l i z)) → (x : A) → Mem x (fill z n l) → P x
+  unfolding fill
+  of-filled (suc n) [] zero-too h x (inl e) = subst P (sym e) zero-too
+  of-filled (suc n) [] zero-too h x (inr m) = of-filled n [] zero-too (λ i. zero-too) x m
+  of-filled (suc n) (y ∷ l) zero-too h x (inl e) = subst P (sym e) (h 0)
+  of-filled (suc n) (y ∷ l) zero-too h x (inr m) = of-filled n l zero-too (λ i. h (suc i)) x m
+
+  taken : (n : ℕ) (l : List A) (x : A) → Mem x (take n l) → Mem x l
+  taken (suc n) (y ∷ l) x (inl e) = inl e
+  taken (suc n) (y ∷ l) x (inr m) = inr (taken n l x m)
+
+  dropped : (n : ℕ) (l : List A) (x : A) → Mem x (drop n l) → Mem x l
+  dropped zero l x m = m
+  dropped (suc n) (y ∷ l) x m = inr (dropped n l x m)
+
 pub sound : (s : List ℕ) → judge s ≡ Accepted → Sound (bodyOf s)
-sound s a = is-sound (bodyOf s) (well-formed s a)
+unfolding effectsOf
+sound s a = is-sound (bodyOf s) (well-formed s a) fits
+  where
+    each : (i : ℕ) → SFits w32 (getD (effectsIn s (recordsFrom s 0)) i zeroEffect .constant)
+    each i = subst (λ (es : List Effect). WellFormedEffect (getD es i zeroEffect)) (sym (effects-after s (read s a))) (effects-well s (read s a .passing) i) .constant
+
+    fits : (b : ℕ) (e : Effect) → Mem e (effectsOf (bodyOf s) b) → SFits w32 (e .constant)
+    fits b e m =
+        of-filled (λ (e : Effect). SFits w32 (e .constant)) zeroEffect 256 (effectsIn s (recordsFrom s 0)) zero-fits each e
+        (dropped (λ (e : Effect). SFits w32 (e .constant)) zeroEffect (effectsBelow (bodyOf s) b) (bodyOf s .effects) e
+        (taken (λ (e : Effect). SFits w32 (e .constant)) zeroEffect (block-of (bodyOf s) b .effects) _ e m))

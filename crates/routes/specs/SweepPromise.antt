@@ -124,10 +124,10 @@ module _ (form lent table : List ℕ) where
   -- ---- soundness: no run of at most count iterations costs more than the bound
 
   pub sweep-sound : (iterations weight bound kept : ℕ) (held rows : List ℕ) → SweepOwed form lent table (outcomeOf (Routed iterations weight bound kept) held rows)
-      → {l : List Path} → Run (bodyOf form) l → length l ≤ iterations → runCost (bodyOf form) (stepCost (bodyOf form)) l ≤ bound
+      → {l : List (Path × ℕ)} → Run (bodyOf form) l → length l ≤ iterations → runCost (bodyOf form) (stepCost (bodyOf form)) l ≤ bound
   sweep-sound iterations weight bound kept held rows o {l} r n =
       let s = sweep-answered form lent table (outcomeOf (Routed iterations weight bound kept) held rows) o refl in
-      rw (s .bound-is) (run-bound (bodyOf form) (sound form (s .accepted)) (stepCost (bodyOf form)) (s .route) (s .best) iterations r n)
+      rw (s .bound-is) (run-bound (bodyOf form) (sound form (s .accepted)) (stepCost (bodyOf form)) (λ b way. omega arith) (s .route) (s .best) iterations r n)
 
 -- ---- the two ways agree
 

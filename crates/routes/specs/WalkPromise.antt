@@ -87,8 +87,8 @@ module _ (form : List ℕ) (budget : ℕ) (lent : List ℕ) where
   -- ---- soundness: no run of at most count iterations costs more than the bound
 
   pub walk-sound : (iterations weight bound walked : ℕ) (held : List ℕ) → WalkOwed form budget lent (said (Walked iterations weight bound walked), held)
-      → {l : List Path} → Run (bodyOf form) l → length l ≤ iterations → runCost (bodyOf form) (stepCost (bodyOf form)) l ≤ bound
+      → {l : List (Path × ℕ)} → Run (bodyOf form) l → length l ≤ iterations → runCost (bodyOf form) (stepCost (bodyOf form)) l ≤ bound
   walk-sound iterations weight bound walked held o {l} r n =
       let s = success form budget lent (said (Walked iterations weight bound walked), held) o refl in
       let a = s .answered in
-      rw (a .bound) (run-bound (bodyOf form) (sound form (s .accepted)) (stepCost (bodyOf form)) (a .route) (a .best) (s .count) r (rw (← a .iterations) n))
+      rw (a .bound) (run-bound (bodyOf form) (sound form (s .accepted)) (stepCost (bodyOf form)) (λ b way. omega arith) (a .route) (a .best) (s .count) r (rw (← a .iterations) n))

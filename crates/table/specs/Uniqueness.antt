@@ -30,7 +30,7 @@ module _ (form route : List ℕ) (lent : List Entry) where
       (same, (bytes, ap (λ (x : Outcome). x .table) (owed-once form (refused route lent) (sweepOutcome (bodyOf form) route lent) (outcomeOf a held table) (outcomeOf b held′ table′) o p)))
 
   pub table-sound : (iterations weight bound kept : ℕ) (held : List ℕ) (table : List Entry) → TableOwed form route lent (outcomeOf (Routed iterations weight bound kept) held table)
-      → {l : List Path} → Run (bodyOf form) l → length l ≤ iterations → runCost (bodyOf form) (stepCost (bodyOf form)) l ≤ bound
+      → {l : List (Path × ℕ)} → Run (bodyOf form) l → length l ≤ iterations → runCost (bodyOf form) (stepCost (bodyOf form)) l ≤ bound
   table-sound iterations weight bound kept held table o r n =
       sweep-sound form route (words lent) iterations weight bound kept held (words table) (owed-words form route lent (outcomeOf (Routed iterations weight bound kept) held table) o) r n
 

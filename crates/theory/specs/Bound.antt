@@ -1,32 +1,36 @@
--- Theorem 5: the route of every iteration has no conflict (`iteration-free`), so it is one of the routes, and a run of no more iterations than the count costs at most the
--- count times the heaviest weight (`run-bound`). Rests on Run, Steps, Passes and relations.
+-- Theorem 5: the route of every iteration has no conflict (`iteration-free`), so it is one of the routes; one that is left early could go on to the end (`goes-on`), so it costs no
+-- more than some route; and a run of no more iterations than the count costs at most the count times the heaviest weight (`run-bound`). Rests on Run, Steps, Passes and relations.
 use mathlib.Core.Path.{_≡_, refl, sym, ap, subst, _∙_}
-use mathlib.Core.Logic.{inl, inr}
+use mathlib.Core.Logic.{_⊎_, inl, inr}
 use mathlib.Core.Bool.{Bool, true, false, not, cond, _||_, _&&_}
 use mathlib.Core.List.{List, [], _∷_, map}
 use mathlib.Core.Option.{Option, none, some}
-use Prim.Native.Nat.{ℕ, suc, _+_, _*_, _≤_, _<_}
+use Prim.Native.Nat.{ℕ, zero, suc, _+_, _*_, _≤_, _<_}
 use native.Mathlib.Nat.{suc-mul, le-trans, mul-le-mul-right}
 use native.Mathlib.Omega.{arith}
-use borrow.Author.Tests.{eqb-true, eqb-false, ltb-false}
+use borrow.Author.Tests.{eqb-true, eqb-false, ne-eqb, ltb-false}
 use lib.Dec.{eqb}
 use lib.IntN.{ℤ}
 use lib.ListN.{length}
+use mir.Syntax.{w32}
+use mir.Val.{SFits}
 use Rattle.laws.specs.Terms.{Mem, anyOf, heavier}
-use Rattle.laws.specs.Tests.{clash, and-out, or-out, or-no, is-false, not-out, or-none}
+use Rattle.laws.specs.Tests.{clash, split, and-out, or-out, or-no, is-false, not-out, or-none, eqb-same}
+use Rattle.laws.specs.Sets.{below-or-not}
 use Rattle.laws.specs.Orders.{Choice, asym, ntrans, heaviest}
 use Rattle.laws.specs.Lists.{map-in, only-in}
 use Rattle.form.specs.declared.Body.{Body}
 use Rattle.form.specs.declared.Effect.{Effect}
 use Rattle.form.specs.Relation.{meets, opposite}
-use Rattle.form.specs.Conflict.{Edge, Condition, block, effectsOf, isTest, condition, met, opposes, denies, touches, later, lastOn, refuses, Onward, Sound}
+use Rattle.form.specs.Conflict.{Edge, Condition, block, effectsOf, exitsBy, exits, isTest, condition, met, opposes, denies, touches, later, lastOn, refuses, Onward, Sound}
 use Rattle.relations.specs.Relations.{opposite-is}
 use Rattle.relations.specs.Conditions.{contradict-says}
 use Rattle.theory.specs.Route.{Path, lastBlock, paths, conflict, tails, routes, weight, weighed, choose, best, bestRoute}
-use Rattle.theory.specs.Run.{State, Does, Do, holdsAt, Leaves, Iteration, Run, runCost}
+use Rattle.theory.specs.Run.{State, Does, Do, holdsAt, Leaves, Iteration, Beginning, Run, runCost}
 use Rattle.theory.specs.Run.Do.{done, does}
 use Rattle.theory.specs.Run.Iteration.{ends, goes}
-use Rattle.theory.specs.Run.Run.{rests, repeats}
+use Rattle.theory.specs.Run.Beginning.{stops, passes}
+use Rattle.theory.specs.Run.Run.{rests, repeats, breaks}
 use Rattle.theory.specs.Passes.{leads-path}
 use Rattle.relations.specs.Listed.{denies-test, opposes-out}
 use Rattle.theory.specs.Steps.{Leads, wipes, against, hit, hit-nil, hit-cons, conflict-nil, conflict-cons}
@@ -162,6 +166,82 @@ module _ (body : Body) (w : Onward body) where
   unfolding tails
   iteration-route k {p = p} i = only-in (λ p. not (conflict body p)) (paths body (body .count) 0) p (ap not (iteration-free body k i)) (leads-path body w (body .count) 0 p (inside i) (omega arith) (iteration-leads i))
 
+-- ---- an iteration that is left early could go on to the end
+
+-- a state in which the effect is done
+done-once : (a : Effect) → SFits w32 (a .constant) → (s : State) → (t : State) × Does a s t
+done-once a fits s = (record { value = value; fits = in-range }, record { constant = λ _. here; others = there })
+  where
+    value : ℕ → ℤ
+    value v = cond (eqb v (a .variable)) (a .constant) (s .value v)
+
+    in-range : (v : ℕ) → SFits w32 (value v)
+    in-range v = split (eqb v (a .variable)) (λ e. rw e fits) (λ e. rw e (s .fits v))
+
+    here : value (a .variable) ≡ a .constant
+    here = rw (eqb-same (a .variable))
+
+    there : (v : ℕ) → (v ≡ a .variable → ⊥) → value v ≡ s .value v
+    there v n = rw (ne-eqb v (a .variable) n)
+
+all-done : (l : List Effect) → ((a : Effect) → Mem a l → SFits w32 (a .constant)) → (s : State) → (t : State) × Do l s t
+all-done [] fits s = (s, done)
+all-done (a ∷ l) fits s =
+    let (t, d) = done-once a (fits a (inl refl)) s in
+    let (u, r) = all-done l (λ e m. fits e (inr m)) t in
+    (u, does d r)
+
+-- a block with an exit can be left: a test by the way that its relation tells
+by-relation : (ending jump fall : ℕ) (holds : Bool) (o : ℕ × ℕ) → Mem o (exitsBy ending jump fall)
+    → (x : ℕ × ℕ) × Mem x (exitsBy ending jump fall) × ((ending ≡ 3 → holds ≡ true → x .0 ≡ 1) × (ending ≡ 3 → holds ≡ false → x .0 ≡ 2))
+by-relation zero jump fall holds o m = absurd m
+by-relation (suc zero) jump fall holds o m = ((1, jump), inl refl, (λ e h. refl, λ e h. absurd (let z : _≡_ {A = ℕ} 1 3 = e in omega arith)))
+by-relation (suc (suc zero)) jump fall holds o m = ((1, jump), inl refl, (λ e h. refl, λ e h. absurd (let z : _≡_ {A = ℕ} 2 3 = e in omega arith)))
+by-relation (suc (suc (suc zero))) jump fall true o m = ((1, jump), inl refl, (λ e h. refl, λ e h. clash refl h))
+by-relation (suc (suc (suc zero))) jump fall false o m = ((2, fall), inr (inl refl), (λ e h. clash h refl, λ e h. refl))
+by-relation (suc (suc (suc (suc above)))) jump fall holds o m = absurd m
+
+module _ (body : Body) (g : Sound body) where
+  can-leave : (b : ℕ) → suc b < body .count → (s : State) → (o : ℕ × ℕ) × Leaves body b s o
+  unfolding exits
+  can-leave b h s =
+      let (o, m) = g .going b h in
+      let (x, n, (j, f)) = by-relation (block body b .ending) (block body b .jump) (block body b .fall) (holdsAt body b s) o m in
+      (x, record { exit = n; jump = j; fall = f })
+
+  -- one block more: the last one ends, another is left and goes on
+  one-step : (b : ℕ) → b < body .count → (s : State) → ((o : ℕ × ℕ) → Mem o (exits body b) → (t : State) → (p : Path) × (u : State) × Iteration body (o .1) t p u)
+      → (p : Path) × (t : State) × Iteration body b s p t
+  one-step b h s rest = by (below-or-not (suc b) (body .count))
+    where
+      by : (suc b < body .count) ⊎ (body .count ≤ suc b) → (p : Path) × (t : State) × Iteration body b s p t
+      by (inr k) = let (t, d) = all-done (effectsOf body b) (g .fits b) s in ([], t, ends {b = b} (omega arith) d)
+      by (inl k) =
+          let (t, d) = all-done (effectsOf body b) (g .fits b) s in
+          let (o, e) = can-leave b k t in
+          let (p, u, i) = rest o (e .exit) t in
+          ((b, o .0) ∷ p, u, goes o d e i)
+
+  -- from every block and every state some iteration goes on to the end
+  pub goes-on : (n b : ℕ) → b < body .count → body .count ≤ b + n → (s : State) → (p : Path) × (t : State) × Iteration body b s p t
+  goes-on zero b h l s = absurd (omega arith)
+  goes-on (suc n) b h l s = one-step b h s (λ o m t. goes-on n (o .1) (g .onward .inside b o m) (omega (arith, g .onward .above b o m)) t)
+
+  -- so it costs no more than one that goes to the end; what a block costs by no way is the least
+  module _ (cost : ℕ → ℕ → ℕ) (least : (b way : ℕ) → cost b 0 ≤ cost b way) where
+    whole-weight : (b : ℕ) {s t : State} {p : Path} → Iteration body b s p t → cost b 0 ≤ weight cost (lastBlock body) p
+    unfolding weight
+    whole-weight b (ends e d) = let same : b ≡ lastBlock body = omega arith in rw (← same) (omega arith)
+    whole-weight b (goes o d l r) = omega (arith, least b (o .0))
+
+    pub extended : {b last : ℕ} {s : State} {p : Path} → Beginning body b s p last → b < body .count
+        → (q : Path) × (t : State) × Iteration body b s q t × (weight cost last p ≤ weight cost (lastBlock body) q)
+    unfolding weight
+    extended (stops {b = b} {s = s}) h = let (q, t, i) = goes-on (body .count) b h (omega arith) s in (q, t, i, whole-weight b i)
+    extended (passes {b = b} o d l r) h =
+        let (q, t, i, w) = extended r (g .onward .inside b o (l .exit)) in
+        ((b, o .0) ∷ q, t, goes o d l i, omega arith)
+
 -- ---- the best of a list
 
 module _ {B : Type 0} (prefers : ℕ → ℕ → Bool) (ch : Choice prefers) where
@@ -199,14 +279,21 @@ module _ (body : Body) (g : Sound body) (cost : ℕ → ℕ → ℕ) where
   iteration-best prefers ch {p = p} i v h =
       best-most prefers ch (map (weighed body cost) (routes body)) v h (weighed body cost p) (map-in (weighed body cost) (routes body) p (iteration-route body (g .onward) (g .known) i))
 
-  run-cost : (v : ℕ × Path) → bestRoute body cost heavier ≡ some v → {l : List Path} → Run body l → runCost body cost l ≤ length l * v .0
-  unfolding runCost
-  run-cost v h rests = omega arith
-  run-cost v h (repeats {p = p} {l = l} i r) = one-more (weight cost (lastBlock body) p) (runCost body cost l) (length l) (v .0) (ltb-false (v .0) (weight cost (lastBlock body) p) (iteration-best heavier heaviest i v h)) (run-cost v h r)
-    where
-      one-more : (a c n m : ℕ) → a ≤ m → c ≤ n * m → a + c ≤ suc n * m
-      one-more a c n m p q = rw (suc-mul n m) (omega arith)
+  module _ (least : (b way : ℕ) → cost b 0 ≤ cost b way) (v : ℕ × Path) (h : bestRoute body cost heavier ≡ some v) where
+    at-most : {s t : State} {p : Path} → Iteration body 0 s p t → weight cost (lastBlock body) p ≤ v .0
+    at-most {p = p} i = ltb-false (v .0) (weight cost (lastBlock body) p) (iteration-best heavier heaviest i v h)
 
-  -- a run of no more iterations than the count costs at most the count times the heaviest weight
-  pub run-bound : (v : ℕ × Path) → bestRoute body cost heavier ≡ some v → (count : ℕ) → {l : List Path} → Run body l → length l ≤ count → runCost body cost l ≤ count * v .0
-  run-bound v h count {l} r n = le-trans (run-cost v h r) (mul-le-mul-right (v .0) n)
+    one-more : (a c n m : ℕ) → a ≤ m → c ≤ n * m → a + c ≤ suc n * m
+    one-more a c n m p q = rw (suc-mul n m) (omega arith)
+
+    run-cost : {l : List (Path × ℕ)} → Run body l → runCost body cost l ≤ length l * v .0
+    unfolding runCost
+    run-cost rests = omega arith
+    run-cost (repeats {p = p} {l = l} i r) = one-more (weight cost (lastBlock body) p) (runCost body cost l) (length l) (v .0) (at-most i) (run-cost r)
+    run-cost (breaks {p = p} {last = last} {l = l} i r) =
+        let (q, t, j, w) = extended body g cost least i (g .some) in
+        one-more (weight cost last p) (runCost body cost l) (length l) (v .0) (le-trans w (at-most j)) (run-cost r)
+
+    -- a run of no more iterations than the count costs at most the count times the heaviest weight
+    pub run-bound : (count : ℕ) → {l : List (Path × ℕ)} → Run body l → length l ≤ count → runCost body cost l ≤ count * v .0
+    run-bound count {l} r n = le-trans (run-cost r) (mul-le-mul-right (v .0) n)

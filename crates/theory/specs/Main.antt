@@ -40,10 +40,10 @@ module _ (body : Body) (g : Sound body) (cost : ℕ → ℕ → ℕ) (prefers : 
   walk-answer = walk-words body (g .onward) cost prefers ch
 
 -- a run of no more iterations than the count costs at most the count times the weight in row 0
-pub run-most : (body : Body) → Sound body → (cost : ℕ → ℕ → ℕ) (v : Words) → rowWords body (conflicts body) cost heavier 0 ≡ (noEdges, v) ∷ []
-    → (count : ℕ) {l : List Path} → Run body l → length l ≤ count → runCost body cost l ≤ count * v .0
-run-most body g cost v h count {l} r n = by (bestRoute body cost heavier) refl (sym (row-zero-words body (conflicts body) cost heavier) ∙ h)
+pub run-most : (body : Body) → Sound body → (cost : ℕ → ℕ → ℕ) → ((b way : ℕ) → cost b 0 ≤ cost b way) → (v : Words) → rowWords body (conflicts body) cost heavier 0 ≡ (noEdges, v) ∷ []
+    → (count : ℕ) {l : List (Path × ℕ)} → Run body l → length l ≤ count → runCost body cost l ≤ count * v .0
+run-most body g cost least v h count {l} r n = by (bestRoute body cost heavier) refl (sym (row-zero-words body (conflicts body) cost heavier) ∙ h)
   where
     by : (o : Option Val) → bestRoute body cost heavier ≡ o → found noEdges (wordsFound body o) ≡ (noEdges, v) ∷ [] → runCost body cost l ≤ count * v .0
     by none e f = let z : _≡_ {A = ℕ} 0 1 = cc in absurd (omega arith)
-    by (some u) e f = let d : _≡_ {A = Key × Words} (noEdges, wordsOf body u) (noEdges, v) = cc in subst (λ (x : Words). runCost body cost l ≤ count * x .0) (ap (λ (e : Key × Words). e .1) d) (run-bound body g cost u e count r n)
+    by (some u) e f = let d : _≡_ {A = Key × Words} (noEdges, wordsOf body u) (noEdges, v) = cc in subst (λ (x : Words). runCost body cost l ≤ count * x .0) (ap (λ (e : Key × Words). e .1) d) (run-bound body g cost least u e count r n)

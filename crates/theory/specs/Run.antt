@@ -44,12 +44,20 @@ pub data Iteration (body : Body) : ℕ → State → Path → State → Type 0 w
   goes : {b : ℕ} {s t u : State} {p : Path} (o : ℕ × ℕ) → Do (effectsOf body b) s t → Leaves body b t o → Iteration body (o .1) t p u
       → Iteration body b s ((b, o .0) ∷ p) u
 
--- A run: iterations from block 0, each from any state, since variables pass as left or changed from outside. Its routes, in order.
-pub data Run (body : Body) : List Path → Type 0 where
-  rests : Run body []
-  repeats : {s t : State} {p : Path} {l : List Path} → Iteration body 0 s p t → Run body l → Run body (p ∷ l)
+-- An iteration that is left early: it stops in a block that it has entered.
+pub data Beginning (body : Body) : ℕ → State → Path → ℕ → Type 0 where
+  stops : {b : ℕ} {s : State} → Beginning body b s [] b
+  passes : {b last : ℕ} {s t : State} {p : Path} (o : ℕ × ℕ) → Do (effectsOf body b) s t → Leaves body b t o → Beginning body (o .1) t p last
+      → Beginning body b s ((b, o .0) ∷ p) last
 
--- What the run costs.
-unfoldable pub runCost : Body → (cost : ℕ → ℕ → ℕ) → List Path → ℕ
+-- A run: iterations from block 0, each from any state, since variables pass as left or changed from outside, and each to its end or left early. Their paths, in order, each
+-- with the block that it stops in.
+pub data Run (body : Body) : List (Path × ℕ) → Type 0 where
+  rests : Run body []
+  repeats : {s t : State} {p : Path} {l : List (Path × ℕ)} → Iteration body 0 s p t → Run body l → Run body ((p, lastBlock body) ∷ l)
+  breaks : {s : State} {p : Path} {last : ℕ} {l : List (Path × ℕ)} → Beginning body 0 s p last → Run body l → Run body ((p, last) ∷ l)
+
+-- What the run costs: the costs of the blocks that its iterations enter.
+unfoldable pub runCost : Body → (cost : ℕ → ℕ → ℕ) → List (Path × ℕ) → ℕ
 runCost body cost [] = 0
-runCost body cost (p ∷ l) = weight cost (lastBlock body) p + runCost body cost l
+runCost body cost (x ∷ l) = weight cost (x .1) (x .0) + runCost body cost l
