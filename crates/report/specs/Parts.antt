@@ -18,11 +18,11 @@ use Rattle.listing.specs.Answer.{listing, asJudged}
 use Rattle.listing.specs.Listing.{bytes-length}
 use Rattle.routes.specs.declared.sweep.SweepAnswer.{SweepAnswer}
 use Rattle.routes.specs.declared.sweep.SweepAnswer.the-variants.{Routed, Refused as Unswept}
-use Rattle.routes.specs.SweepAnswer.{SweepOwed, outcomeOf}
-use Rattle.routes.specs.SweepPromise.{sweep-answered}
 use Rattle.routes.specs.declared.walk.WalkAnswer.{WalkAnswer}
 use Rattle.routes.specs.WalkAnswer.{WalkOwed, said}
-use Rattle.report.specs.Report.{line, refusalLine, routeLine, walkedLine, blocksWord, iterationsWord, conflictsWord, weightWord, boundWord, keptWord, noRoute, emptyTable, budget, Reported}
+use Rattle.table.specs.Answer.{OwnTableOwed}
+use Rattle.table.specs.Uniqueness.{own-answered}
+use Rattle.report.specs.Report.{line, refusalLine, routeLine, walkedLine, blocksWord, iterationsWord, conflictsWord, weightWord, boundWord, keptWord, noRoute, budget, Reported}
 use Rattle.report.specs.Report.Reported.{refused, reported}
 use Rattle.report.specs.Adding.{Adds, then}
 
@@ -89,25 +89,19 @@ walked-shown form o p held at r answer shown owed e adds few = record {
   few = few;
 }
 
--- for any lent table, so that none is written out
-module _ (form lent table : List ℕ) where
-  shown-owed : (route rows : List ℕ) (answer shown : SweepAnswer) → SweepOwed form lent table (outcomeOf answer route rows) → answer ≡ shown → SweepOwed form lent table (outcomeOf shown route rows)
-  shown-owed route rows answer shown owed e = subst (λ (x : SweepAnswer). SweepOwed form lent table (outcomeOf x route rows)) e owed
+shown-owed : (form lent route : List ℕ) (answer shown : SweepAnswer) → OwnTableOwed form lent answer route → answer ≡ shown → OwnTableOwed form lent shown route
+shown-owed form lent route answer shown owed e = subst (λ (x : SweepAnswer). OwnTableOwed form lent x route) e owed
 
-  pub routed-accepted : (route rows : List ℕ) (iterations weight bound kept : ℕ) → SweepOwed form lent table (outcomeOf (Routed iterations weight bound kept) route rows) → judge form ≡ Accepted
-  routed-accepted route rows iterations weight bound kept owed = sweep-answered form lent table (outcomeOf (Routed iterations weight bound kept) route rows) owed refl .accepted
-
-pub routed-reported : (form o mid p : List ℕ) (a r : ℕ) (route rows : List ℕ) (answer : SweepAnswer) (iterations weight bound kept : ℕ)
-    → SweepOwed form noRoute emptyTable (outcomeOf answer route rows) → answer ≡ Routed iterations weight bound kept
+pub routed-reported : (form o mid p : List ℕ) (a r : ℕ) (route : List ℕ) (answer : SweepAnswer) (iterations weight bound kept : ℕ)
+    → OwnTableOwed form noRoute answer route → answer ≡ Routed iterations weight bound kept
     → (judge form ≡ Accepted → Adds o 0 mid a (fiveLines (bodyOf form) iterations weight bound)) → ThreeAdds form mid a p r kept route → Reported form (take r p)
-routed-reported form o mid p a r route rows answer iterations weight bound kept says e five three =
-    let owed = shown-owed form noRoute emptyTable route rows answer (Routed iterations weight bound kept) says e in
-    let accepted = routed-accepted form noRoute emptyTable route rows iterations weight bound kept owed in
-    reported iterations weight bound kept route rows owed (three .walk) (three .held) (three .owed) (then (five accepted) (three .adds) .holds
+routed-reported form o mid p a r route answer iterations weight bound kept says e five three =
+    let owed = shown-owed form noRoute route answer (Routed iterations weight bound kept) says e in
+    let accepted = own-answered form noRoute iterations weight bound kept route owed .accepted in
+    reported iterations weight bound kept route owed (three .walk) (three .held) (three .owed) (then (five accepted) (three .adds) .holds
     ∙ five-and-three (line blocksWord (bodyOf form .count)) (line iterationsWord iterations) (line conflictsWord (length (conflicts (bodyOf form)))) (line weightWord weight) (line boundWord bound)
     (routeLine route ++ (line keptWord kept ++ walkedLine (three .walk))))
 
-pub refused-reported : (form o p : List ℕ) (r : ℕ) (route rows : List ℕ) (answer : SweepAnswer) (number place : ℕ)
-    → SweepOwed form noRoute emptyTable (outcomeOf answer route rows) → answer ≡ Unswept number place → Adds o 0 p r (refusalLine number place) → Reported form (take r p)
-refused-reported form o p r route rows answer number place says e adds =
-    refused number place route rows (shown-owed form noRoute emptyTable route rows answer (Unswept number place) says e) (adds .holds)
+pub refused-reported : (form o p : List ℕ) (r : ℕ) (route : List ℕ) (answer : SweepAnswer) (number place : ℕ)
+    → OwnTableOwed form noRoute answer route → answer ≡ Unswept number place → Adds o 0 p r (refusalLine number place) → Reported form (take r p)
+refused-reported form o p r route answer number place says e adds = refused number place route (shown-owed form noRoute route answer (Unswept number place) says e) (adds .holds)

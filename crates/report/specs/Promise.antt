@@ -20,40 +20,43 @@ use Rattle.routes.specs.Owed.{Owed}
 use Rattle.routes.specs.Owed.Owed.{no-form, no-count, counted}
 use Rattle.routes.specs.declared.sweep.SweepAnswer.the-variants.{Routed, Refused as Unswept}
 use Rattle.routes.specs.SweepAnswer as sweep
-use Rattle.routes.specs.SweepPromise.{one-sweep, sweep-answered, Answered}
+use Rattle.routes.specs.SweepAnswer.{OutcomeOver}
+use Rattle.routes.specs.SweepPromise.{Answered}
 use Rattle.routes.specs.declared.walk.WalkAnswer.the-variants.{Refused}
 use Rattle.routes.specs.WalkAnswer as walk
 use Rattle.routes.specs.WalkPromise.{one-walk}
-use Rattle.report.specs.Report.{refusalLine, eightLines, noRoute, emptyTable, budget, Reported}
+use Rattle.table.specs.declared.Entry.{Entry}
+use Rattle.table.specs.Answer.{tableWith, under, TableOwed, ownTable}
+use Rattle.table.specs.Uniqueness.{table-answered, own-answered, one-own}
+use Rattle.report.specs.Report.{refusalLine, eightLines, noRoute, budget, Reported}
 use Rattle.report.specs.Report.Reported.{refused, reported}
-use Rattle.report.specs.Parts.{routed-accepted}
 
 -- ---- one text
 
 module _ (form : List ℕ) where
   pub one-report : (t u : List ℕ) → Reported form t → Reported form u → t ≡ u
-  one-report t u (refused n p route rows o e) (refused m q route′ rows′ o′ e′) =
-      let same = one-sweep form noRoute emptyTable (Unswept n p) (Unswept m q) route rows route′ rows′ o o′ .0 in
+  one-report t u (refused n p route o e) (refused m q route′ o′ e′) =
+      let same = one-own form noRoute (Unswept n p) (Unswept m q) route route′ o o′ .0 in
       let number : n ≡ m = cc in
       let place : p ≡ q = cc in
       e ∙ ((λ i. refusalLine (number i) (place i)) ∙ sym e′)
-  one-report t u (refused n p route rows o e) (reported i w b k route′ rows′ o′ a held x e′) =
-      let same = one-sweep form noRoute emptyTable (Unswept n p) (Routed i w b k) route rows route′ rows′ o o′ .0 in
+  one-report t u (refused n p route o e) (reported i w b k route′ o′ a held x e′) =
+      let same = one-own form noRoute (Unswept n p) (Routed i w b k) route route′ o o′ .0 in
       let z : _≡_ {A = ℕ} 0 1 = cc in
       absurd (omega arith)
-  one-report t u (reported i w b k route rows o a held x e) (refused m q route′ rows′ o′ e′) =
-      let same = one-sweep form noRoute emptyTable (Routed i w b k) (Unswept m q) route rows route′ rows′ o o′ .0 in
+  one-report t u (reported i w b k route o a held x e) (refused m q route′ o′ e′) =
+      let same = one-own form noRoute (Routed i w b k) (Unswept m q) route route′ o o′ .0 in
       let z : _≡_ {A = ℕ} 0 1 = cc in
       absurd (omega arith)
-  one-report t u (reported i w b k route rows o a held x e) (reported i′ w′ b′ k′ route′ rows′ o′ a′ held′ x′ e′) =
-      let both = one-sweep form noRoute emptyTable (Routed i w b k) (Routed i′ w′ b′ k′) route rows route′ rows′ o o′ in
+  one-report t u (reported i w b k route o a held x e) (reported i′ w′ b′ k′ route′ o′ a′ held′ x′ e′) =
+      let both = one-own form noRoute (Routed i w b k) (Routed i′ w′ b′ k′) route route′ o o′ in
       let same = both .0 in
       let walks : a ≡ a′ = one-walk form budget noRoute a a′ held held′ x x′ .0 in
       let iterations : i ≡ i′ = cc in
       let weight : w ≡ w′ = cc in
       let bound : b ≡ b′ = cc in
       let kept : k ≡ k′ = cc in
-      e ∙ ((λ j. eightLines (bodyOf form) (iterations j) (weight j) (bound j) (kept j) (both .1 .0 j) (walks j)) ∙ sym e′)
+      e ∙ ((λ j. eightLines (bodyOf form) (iterations j) (weight j) (bound j) (kept j) (both .1 j) (walks j)) ∙ sym e′)
 
 -- ---- the front of the input
 
@@ -67,12 +70,13 @@ module _ (s : List ℕ) (n : ℕ) (h : 3682 ≤ n) where
   owed-front refuse with x (no-count a never e) = subst (λ (t : List ℕ). Owed t refuse (with (bodyOf t)) x) (whole a) (no-count a never e)
   owed-front refuse with x (counted a k c e) = subst (λ (t : List ℕ). Owed t refuse (with (bodyOf t)) x) (whole a) (counted a k c e)
 
+  table-front : (lent : List ℕ) (table : List Entry) (x : OutcomeOver (List Entry)) → TableOwed (take n s) lent table x → TableOwed s lent table x
+  table-front lent table = owed-front (sweep.refused lent table) (λ body. sweep.outcomeOver tableWith under body lent table)
+
   pub any-length : (t : List ℕ) → Reported (take n s) t → Reported s t
-  any-length t (refused number place route rows o e) =
-      refused number place route rows
-      (owed-front (sweep.refused noRoute emptyTable) (λ body. sweep.sweepOutcome body noRoute emptyTable) (sweep.outcomeOf (Unswept number place) route rows) o) e
-  any-length t (reported i w b k route rows o a held x e) =
-      subst (λ (f : List ℕ). Reported f t) (whole (routed-accepted (take n s) noRoute emptyTable route rows i w b k o)) (reported i w b k route rows o a held x e)
+  any-length t (refused number place route (table, o) e) = refused number place route (table, table-front noRoute ownTable (sweep.outcomeOf (Unswept number place) route table) o) e
+  any-length t (reported i w b k route o a held x e) =
+      subst (λ (f : List ℕ). Reported f t) (whole (own-answered (take n s) noRoute i w b k route o .accepted)) (reported i w b k route o a held x e)
 
 -- ---- over
 
@@ -93,10 +97,10 @@ module _ (form : List ℕ) (a : judge form ≡ Accepted) (v : ℕ × Path) (best
       let z : 0 ≡ k = ap (λ (x : walk.Outcome). x .0 .iterations) e in absurd (omega arith)
 
 -- where the sweep answers, a walk's refusal is 41 with the budget
-pub only-over : (form lent table : List ℕ) (most : ℕ) → 64 ≤ length lent → (i w b k : ℕ) (route rows : List ℕ) → sweep.SweepOwed form lent table (sweep.outcomeOf (Routed i w b k) route rows)
+pub only-over : (form lent : List ℕ) (table : List Entry) (most : ℕ) → 64 ≤ length lent → (i w b k : ℕ) (route : List ℕ) (rows : List Entry)
+    → TableOwed form lent table (sweep.outcomeOf (Routed i w b k) route rows)
     → (number place : ℕ) (held : List ℕ) → walk.WalkOwed form most lent (walk.said (Refused number place), held) → (number ≡ 41) × (place ≡ most)
-only-over form lent table most room i w b k route rows o number place held owed =
-    cases (sweep-answered form lent table (sweep.outcomeOf (Routed i w b k) route rows) o refl) owed
+only-over form lent table most room i w b k route rows o number place held owed = cases (table-answered form lent table i w b k route rows o) owed
   where
     cases : Answered form lent route i w b → walk.WalkOwed form most lent (walk.said (Refused number place), held) → (number ≡ 41) × (place ≡ most)
     cases s (no-form m q j e) = let z : _≡_ {A = ℕ} 0 1 = unlike (sym (s .accepted) ∙ j) in absurd (omega arith)

@@ -1,5 +1,5 @@
--- What the report program prints, after document 01, 'The trainer's cases'. Trusted: definitions only. A text is a list of ASCII codes. Rests on routes' SweepAnswer
--- and WalkAnswer (what the two ways owe) and on form's Form and Conflict (the body and its conflict list).
+-- What the report program prints, after document 01, 'The trainer's cases'. Trusted: definitions only. A text is a list of ASCII codes. Rests on table's Answer
+-- and routes' WalkAnswer (what the two ways owe) and on form's Form and Conflict (the body and its conflict list).
 use mathlib.Core.Bool.{cond}
 use mathlib.Core.List.{List, [], _∷_, _++_}
 use mathlib.Core.Path.{_≡_}
@@ -10,10 +10,10 @@ use Rattle.form.specs.declared.Body.{Body}
 use Rattle.form.specs.Form.{bodyOf}
 use Rattle.form.specs.Conflict.{conflicts}
 use Rattle.routes.specs.declared.sweep.SweepAnswer.the-variants.{Routed, Refused as Unswept}
-use Rattle.routes.specs.SweepAnswer.{SweepOwed, outcomeOf}
 use Rattle.routes.specs.declared.walk.WalkAnswer.{WalkAnswer}
 use Rattle.routes.specs.declared.walk.WalkAnswer.the-variants.{Walked, Refused}
 use Rattle.routes.specs.WalkAnswer.{WalkOwed, said}
+use Rattle.table.specs.Answer.{OwnTableOwed}
 
 -- ---- the words
 
@@ -109,21 +109,16 @@ eightLines body iterations weight bound kept route walk =
     ++ (line conflictsWord (length (conflicts body))
     ++ (line weightWord weight ++ (line boundWord bound ++ (routeLine route ++ (line keptWord kept ++ walkedLine walk))))))
 
--- The program's lent memory: 64 bytes for a route, a table of 1,536 entries of five words; and its walk budget.
+-- The program's lent memory, 64 bytes for a route, and its walk budget.
 abbrev pub noRoute : List ℕ
 noRoute = replicate 64 0
-
-abbrev pub emptyTable : List ℕ
-emptyTable = replicate 7680 0
 
 abbrev pub budget : ℕ
 budget = 100000
 
--- The text for these bytes: the sweep's refusal alone; or the eight lines, from the sweep's answer and route and the walk's answer.
+-- The text for these bytes: the sweep's refusal alone; or the eight lines, from the sweep's answer and route and the walk's answer. The sweep is that over a table of 1,536 entries.
 pub data Reported (form text : List ℕ) : Type 0 where
-  refused : (number place : ℕ) (route table : List ℕ)
-      → SweepOwed form noRoute emptyTable (outcomeOf (Unswept number place) route table) → text ≡ refusalLine number place → Reported form text
-  reported : (iterations weight bound kept : ℕ) (route table : List ℕ)
-      → SweepOwed form noRoute emptyTable (outcomeOf (Routed iterations weight bound kept) route table)
+  refused : (number place : ℕ) (route : List ℕ) → OwnTableOwed form noRoute (Unswept number place) route → text ≡ refusalLine number place → Reported form text
+  reported : (iterations weight bound kept : ℕ) (route : List ℕ) → OwnTableOwed form noRoute (Routed iterations weight bound kept) route
       → (walk : WalkAnswer) (held : List ℕ) → WalkOwed form budget noRoute (said walk, held)
       → text ≡ eightLines (bodyOf form) iterations weight bound kept route walk → Reported form text

@@ -77,9 +77,8 @@ fn report(form: &[u8], out: &mut [u8]) -> usize
     requires { ⌜ 1700 ≤ length (now out) ⌝ }
     ensures { λ r. ⌜ Reported (now (form .entry)) (take r (now (out .exit))) × (r ≤ 1700) ⌝ }
 {
-    let mut table = [0u64; 7680];
     let mut route = [0u8; 64];
-    match routes::sweep::sweep(form, &mut table, &mut route) {
+    match table::sweep_own(form, &mut route) {
         SweepAnswer::Routed {
             iterations,
             weight,

@@ -5,14 +5,11 @@ use borrow.Author.Needs.{needs}
 use Rattle.report.proofs.report.Statement.{statement}
 use Rattle.report.proofs.report.Tie as tie
 
-slice-aggregate-sweep : tie.Need-slice-aggregate-sweep
-slice-aggregate-sweep c = search needs
+slice-aggregate-sweep-own : tie.Need-slice-aggregate-sweep-own
+slice-aggregate-sweep-own c = search needs
 
-slice-aggregate-sweep-2 : tie.Need-slice-aggregate-sweep-2
-slice-aggregate-sweep-2 c = search needs
-
-sweep-requires : tie.Need-sweep-requires
-sweep-requires c κs = search needs
+sweep-own-requires : tie.Need-sweep-own-requires
+sweep-own-requires c κs = search needs
 
 enum-known-iterations : tie.Need-enum-known-iterations
 enum-known-iterations c = search needs
@@ -40,8 +37,8 @@ returns c =
     let last = c .before .before in
     let first = last .before .before .before .before in
     let told = first .before .before .before in
-    let asked = told .before .before .before .before in (
-      routed-reported _ _ _ _ _ _ _ _ _ _ _ _ _ (asked .sweep .ensures) (told .iterations .given .1) (first .five-lines .ensures .0) (last .three-lines .ensures),
+    let asked = told .before .before .before in (
+      routed-reported _ _ _ _ _ _ _ _ _ _ _ _ (asked .sweep-own .ensures) (told .iterations .given .1) (first .five-lines .ensures .0) (last .three-lines .ensures),
       omega (
         arith,
         first .five-lines .ensures .1,
@@ -56,16 +53,15 @@ returns-2 : tie.Need-returns-2
 returns-2 c =
     let last = c .before .before in
     let told = last .before .before .before in
-    let asked = told .before .before .before .before in
-    (refused-reported _ _ _ _ _ _ _ _ _ (asked .sweep .ensures) (told .number .given .1) (last .refused .ensures .0), omega (arith, last .refused .ensures .1))
+    let asked = told .before .before .before in
+    (refused-reported _ _ _ _ _ _ _ _ (asked .sweep-own .ensures) (told .number .given .1) (last .refused .ensures .0), omega (arith, last .refused .ensures .1))
 
 pub report-spec : {M : Type 1} → statement M
 report-spec =
     tie.close
     (tie.spec
-    slice-aggregate-sweep
-    slice-aggregate-sweep-2
-    sweep-requires
+    slice-aggregate-sweep-own
+    sweep-own-requires
     enum-known-iterations
     five-lines-requires
     three-lines-requires
