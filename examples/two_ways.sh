@@ -1,13 +1,13 @@
 #!/usr/bin/env bash
-# Builds two_ways.c with the proved static library (rt staticlib desk), as a training tool would, and tries it. On x86-64 with gcc, and under valgrind
-# where that is there. Elsewhere gcc only looks for warnings; the x86-64 program is made by the compiler and linker of the proof tools over the system's
-# headers and the tools' C library, and runs in their emulator. The last line is 'N passed, M failed'.
+# Builds two_ways.c with the proved static library (tools/library.sh), as a training tool would, and tries it. On x86-64 with gcc.
+# Elsewhere gcc only looks for warnings; the x86-64 program is made by the compiler and linker of the proof tools over the system's
+# headers and the tools' C library, and runs in their emulator. Under valgrind too, where that is there. The last line is 'N passed, M failed'.
 set -u
 cd "$(dirname "$0")/.." || exit 1
 . tools/try.sh
 
 library=target/staticlib/libdesk.a
-[ -f "$library" ] || { echo "two_ways.sh: there is no $library: rt staticlib desk makes it"; echo "0 passed, 1 failed"; exit 1; }
+[ -f "$library" ] || { echo "two_ways.sh: there is no $library: tools/library.sh makes it"; echo "0 passed, 1 failed"; exit 1; }
 warnings=(-std=c11 -O2 -Wall -Wextra -Werror)
 program=$room/two_ways
 
@@ -57,12 +57,22 @@ for budget in "" x 13x " 13" -1 -18446744073709551615 4294967296 999999999999999
     try "the budget '$budget'" 2 "" "the budget is a number up to 4294967295" "${run[@]}" examples/trainer.form "$budget"
 done
 
-if [ "$(uname -m)" != x86_64 ] || ! valgrind -q --error-exitcode=1 true >/dev/null 2>&1; then
-    echo "valgrind is not there, or cannot run x86-64 programs here: not tried under it"
+# Under valgrind, which runs programs for its own processor only: elsewhere than on x86-64 one over the library's module, compiled for that processor.
+native() {
+    objcopy --redefine-sym somniaret_walk=module_walk --redefine-sym somniaret_sweep=module_sweep target/staticlib/desk.o "$program.desk.o" &&
+        gcc "${warnings[@]}" -Iinclude examples/two_ways.c tools/answers.c "$program.desk.o" -o "$program.native"
+}
+
+if ! valgrind -q --error-exitcode=1 true >/dev/null 2>&1; then
+    echo "valgrind is not there: not tried under it"
 else
+    if [ "$(uname -m)" != x86_64 ]; then
+        try "it builds over the library's module" 0 "" "" native
+        run=("$program.native")
+    fi
     for form in examples/trainer.form examples/figure1.form "$room/refused.form" /dev/null; do
         "${run[@]}" "$form" >"$room/plain"
-        try "$form under valgrind" 0 "$(cat "$room/plain")"$'\n' "" valgrind -q --error-exitcode=1 "${run[@]}" "$form"
+        try "$form under valgrind" 0 "$(cat "$room/plain")"$'\n' "" valgrind -q --leak-check=full --error-exitcode=1 "${run[@]}" "$form"
     done
 fi
 
