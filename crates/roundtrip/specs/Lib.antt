@@ -1,5 +1,6 @@
 -- What the reader and the writer of crate form owe together. No definition here says what a call answers; those are form's Form and Answer.
 --   Sound      what the layers above may count on in the body of an accepted form
+--   Read       the reader's answer, and the body of an accepted form
 --   Trips      what is read writes back, what is written reads back, over any answers that meet the promises
 --   Example    the trainer's body of document 01 goes through
 --   Front      the first 3,682 bytes of any input decide how it is judged and read; an accepted form has at most 3,665
@@ -11,6 +12,7 @@ pub mod Filled
 pub mod Acceptance
 pub mod Laid
 pub mod Sound
+pub mod Read
 pub mod WriteBack
 pub mod Unique
 pub mod Front

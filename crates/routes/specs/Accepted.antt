@@ -22,7 +22,8 @@ use Rattle.counter.specs.Answer.Owed.{no-relation, no-count as without, counted
 use Rattle.counter.specs.Uniqueness.{at-most}
 use Rattle.relations.specs.Loops.{count-once}
 use Rattle.roundtrip.specs.Acceptance.{refused}
-use Rattle.roundtrip.specs.Sound.{well-formed, sound}
+use Rattle.roundtrip.specs.Sound.{well-formed}
+use Rattle.roundtrip.specs.Read.{read-accepted, read-body, read-sound}
 use Rattle.routes.specs.Plan.{Planned}
 use Rattle.routes.specs.WalkTerms.{PlanOf}
 use Rattle.routes.specs.Owed.{Owed}
@@ -106,33 +107,21 @@ module _ {A : Type 0} (s : List ℕ) (refused-by : ℕ → ℕ → A) (with : �
 -- ---- what is read
 
 module _ (s : List ℕ) (r : Reading) (e : r ≡ reading s) where
-  pub read-refused : {number place : ℕ} → r .verdict ≡ Refused number place → judge s ≡ Refused number place
-  read-refused v = sym (ap (λ (x : Reading). x .verdict) e) ∙ v
-
   module _ (v : r .verdict ≡ Accepted) where
-    pub read-accepted : judge s ≡ Accepted
-    read-accepted = sym (ap (λ (x : Reading). x .verdict) e) ∙ v
-
-    pub read-body : r .body ≡ bodyOf s
-    read-body = ap (λ (x : Reading). x .body) e ∙ ap (λ (v : Verdict). when (accepted v) (bodyOf s) zeroBody) read-accepted
-
-    pub read-sound : Sound (r .body)
-    read-sound = subst Sound (sym read-body) (sound s read-accepted)
-
     pub plan-of : {plan : List ℕ} → Planned (r .body) plan → PlanOf plan (r .body .count)
     plan-of p =
         record {
           body = r .body;
           planned = p;
-          sound = read-sound;
-          cheap = subst (λ (b : Body). (k : ℕ) → block b k .cost ≤ 1000000) (sym read-body) (cheap s read-accepted);
+          sound = read-sound s r e v;
+          cheap = subst (λ (b : Body). (k : ℕ) → block b k .cost ≤ 1000000) (sym (read-body s r e v)) (cheap s (read-accepted s r e v));
           size = refl;
         }
 
     pub read-counted : (x : Counted) → CounterOwed (r .body .counter) x → CounterOwed (bodyOf s .counter) x
-    read-counted x o = subst (λ (b : Body). CounterOwed (b .counter) x) read-body o
+    read-counted x o = subst (λ (b : Body). CounterOwed (b .counter) x) (read-body s r e v) o
 
     pub few-iterations : (x : Counted) → CounterOwed (r .body .counter) x → iterationsOf x < 4294967296
     few-iterations x o =
-        let most = at-most (bodyOf s .counter .initial) (bodyOf s .counter .step) (bodyOf s .counter .relation) (bodyOf s .counter .limit) (well-formed s read-accepted .initial) (said x) (read-counted x o) in
+        let most = at-most (bodyOf s .counter .initial) (bodyOf s .counter .step) (bodyOf s .counter .relation) (bodyOf s .counter .limit) (well-formed s (read-accepted s r e v) .initial) (said x) (read-counted x o) in
         omega arith

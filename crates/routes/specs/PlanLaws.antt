@@ -16,8 +16,7 @@ use Rattle.form.specs.declared.Block.{Block}
 use Rattle.form.specs.declared.Body.{Body}
 use Rattle.form.specs.Conflict.{Edge, Pair, block, exitsBy, exits, isTest, condition, touches, opposes, denies, listed, conflicts, same, secondOf, Holds, Sound, noBlock}
 use Rattle.relations.specs.Blocks.{beyond}
-use Rattle.relations.specs.ConflictList.{conflicts-hold}
-use Rattle.relations.specs.Listed.{listed-out}
+use Rattle.relations.specs.Joined.{past-count, no-test, denies-test, opposes-test, listed-none}
 use Rattle.form.specs.Form.{when}
 use Rattle.conflict.specs.declared.Sets.{Sets}
 use Rattle.edges.specs.Local.{wayTo, localOf}
@@ -150,40 +149,18 @@ exits-back (suc (suc (suc (suc n)))) jump fall h = refl
 
 -- ---- nothing past the last block
 
-take-short : (n : ℕ) (l : List Block) → length (take n l) ≤ n
-take-short zero l = omega arith
-take-short (suc n) [] = omega arith
-take-short (suc n) (x ∷ l) = omega (arith, take-short n l)
-
 module _ (body : Body) (g : Sound body) where
   past : (k : ℕ) → body .count ≤ k → isTest body k ≡ false
-  unfolding isTest block
-  past k h = rw (beyond (take (body .count) (body .blocks)) k noBlock (omega (arith, take-short (body .count) (body .blocks))))
+  past k h = no-test body k (past-count body k h)
 
   denies-past : (b k w : ℕ) → body .count ≤ k → denies body b (k, w) ≡ false
-  unfolding denies
-  denies-past b k w h = rw (past k h)
+  denies-past b k w h = denies-test body b (k, w) (past k h)
 
   opposes-past : (x : Edge) (k w : ℕ) → body .count ≤ k → opposes body x (k, w) ≡ false
-  unfolding opposes
-  opposes-past x k w h = rw (past k h) (none (isTest body (x .0)))
-    where
-      none : (t : Bool) → (t && false && Rattle.form.specs.Conflict.contradict (condition body x) (condition body (k, w))) ≡ false
-      none true = refl
-      none false = refl
-
-  no-exit : (k : ℕ) → body .count ≤ k → exits body k ≡ []
-  unfolding exits block
-  no-exit k h = rw (beyond (take (body .count) (body .blocks)) k noBlock (omega (arith, take-short (body .count) (body .blocks))))
+  opposes-past x k w h = opposes-test body x (k, w) (past k h)
 
   listed-past : (b k w : ℕ) → body .count ≤ k → listed (conflicts body) b (k, w) ≡ false
-  listed-past b k w h = split (listed (conflicts body) b (k, w)) (λ t. absurd (never t)) (λ f. f)
-    where
-      never : listed (conflicts body) b (k, w) ≡ true → ⊥
-      never t =
-          let (p, m, s, l) = listed-out (conflicts body) b (k, w) t in
-          let (u, e) = conflicts-hold body (g .onward) p .0 m .0 in
-          subst (λ (os : List (ℕ × ℕ)). Mem (p .outcome, u) os) (ap (exits body) (ap (λ (x : Edge). x .0) s) ∙ no-exit k h) e
+  listed-past b k w h = listed-none body (g .few) b (k, w) (past k h)
 
   touched-past : (b k : ℕ) → body .count ≤ k → (isTest body k && touches body b (block body k .variable)) ≡ false
   touched-past b k h = rw (past k h)

@@ -1,6 +1,7 @@
 -- `listing::conflicts` meets its contract.
 use mathlib.Core.Path.{refl}
-use Rattle.listing.specs.Answered.{read-sound, listed-as, refused-as}
+use Rattle.roundtrip.specs.Read.{read-sound}
+use Rattle.listing.specs.Answered.{listed-as, refused-as}
 use borrow.Author.Needs.{needs}
 use Rattle.listing.proofs.conflicts.Statement.{statement}
 use Rattle.listing.proofs.conflicts.Tie as tie

@@ -2,7 +2,8 @@
 use mathlib.Core.Path.{sym, ap, subst}
 use Rattle.form.specs.declared.Body.{Body}
 use Rattle.routes.specs.Plan.{Planned}
-use Rattle.routes.specs.Accepted.{read-refused, read-accepted, read-body, read-counted, read-sound, plan-of, few-iterations}
+use Rattle.routes.specs.Accepted.{read-counted, plan-of, few-iterations}
+use Rattle.roundtrip.specs.Read.{read-accepted, read-as, read-body, read-sound}
 use Rattle.routes.specs.SweepEnds.{unread}
 use borrow.Author.Needs.{needs}
 use Rattle.routes.proofs.sweep.sweep.Statement.{statement}
@@ -45,7 +46,7 @@ returns : tie.Need-returns
 returns c =
     let read = c .before .before .before .before .before in
     let a = read .before .before .before .before .args in
-    unread (a .form .now) (a .route .now) (a .table .now) (read-refused (a .form .now) (read .read .result) (read .read .ensures) (c .before .before .verdict .given .1)) (c .refuse .ensures)
+    unread (a .form .now) (a .route .now) (a .table .now) (read-as (a .form .now) (read .read .result) (read .read .ensures) _ (c .before .before .verdict .given .1)) (c .refuse .ensures)
 
 same-length : tie.Need-same-length
 same-length c = search needs

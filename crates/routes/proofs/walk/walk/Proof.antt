@@ -3,7 +3,8 @@ use mathlib.Core.Path.{sym, ap, subst}
 use native.Mathlib.Omega.{arith}
 use Rattle.form.specs.declared.Body.{Body}
 use Rattle.routes.specs.Plan.{Planned}
-use Rattle.routes.specs.Accepted.{read-refused, read-accepted, read-body, read-counted, read-sound, plan-of, few-iterations}
+use Rattle.routes.specs.Accepted.{read-counted, plan-of, few-iterations}
+use Rattle.roundtrip.specs.Read.{read-accepted, read-as, read-body, read-sound}
 use Rattle.routes.specs.WalkEnds.{unread}
 use borrow.Author.Needs.{needs}
 use Rattle.routes.proofs.walk.walk.Statement.{statement}
@@ -45,7 +46,7 @@ returns : tie.Need-returns
 returns c =
     let start = c .before .before .before .before .before .before .before .before in
     let read = c .before .before .before .before .before .read in
-    unread (start .args .form .now) (start .args .budget) (start .args .route .now) (read-refused (start .args .form .now) (read .result) (read .ensures) (c .before .before .verdict .given .1)) (c .refuse .ensures)
+    unread (start .args .form .now) (start .args .budget) (start .args .route .now) (read-as (start .args .form .now) (read .result) (read .ensures) _ (c .before .before .verdict .given .1)) (c .refuse .ensures)
 
 same-length : tie.Need-same-length
 same-length c = search needs
