@@ -24,13 +24,23 @@ use crate::tally::{Met, Tally};
 pub const RELATIONS: [u8; 9] = [0, 1, 2, 3, 4, 5, 6, 128, 255];
 
 /// `DRIVER [SEED [INPUTS]] -- PROGRAM WORD..`: without a seed it is 1; the program answers for the proved code.
-struct Arguments {
-    seed: u64,
-    inputs: u64,
-    program: Vec<String>,
+pub struct Arguments {
+    pub seed: u64,
+    pub inputs: u64,
+    pub program: Vec<String>,
 }
 
 impl Arguments {
+    /// Reads them and says which run they make. Where they are wrong, the driver ends.
+    pub fn of(driver: &str, usual_inputs: u64) -> Arguments {
+        let Some(arguments) = Arguments::read(usual_inputs) else {
+            eprintln!("usage: {driver} [SEED [INPUTS]] -- PROGRAM WORD..");
+            exit(2);
+        };
+        println!("{driver}: seed {}, {} inputs", arguments.seed, arguments.inputs);
+        arguments
+    }
+
     fn read(usual_inputs: u64) -> Option<Arguments> {
         let mut words = env::args().skip(1);
         let numbers: Result<Vec<u64>, _> =
@@ -92,11 +102,7 @@ pub struct Comparison {
 impl Comparison {
     /// Reads the arguments, starts the program and sees that it has the calls. Where it has not, the driver ends.
     pub fn start(driver: &str, usual_inputs: u64, calls: &[Call]) -> Comparison {
-        let Some(Arguments { seed, inputs, program }) = Arguments::read(usual_inputs) else {
-            eprintln!("usage: {driver} [SEED [INPUTS]] -- PROGRAM WORD..");
-            exit(2);
-        };
-        println!("{driver}: seed {seed}, {inputs} inputs");
+        let Arguments { seed, inputs, program } = Arguments::of(driver, usual_inputs);
         let started = Served::start(&program).and_then(|mut served| {
             calls.iter().try_for_each(|call| served.ask(&Question::on(*call, &[])).map(|_| ()))?;
             Ok(served)

@@ -7,13 +7,13 @@
 //! end well. An input counts once. Where document 01 or a hand's work gives the text, it is written down here, and the
 //! second program's must be the same.
 
-use std::env;
 use std::io::{ErrorKind, Write};
 use std::process::{Command, ExitCode, Stdio};
 use std::thread::sleep;
 use std::time::Duration;
 
 use by_listing::conflict::AT_LEAST;
+use by_listing::driver::Arguments;
 use by_listing::example::{trainer_counter, trainer_form, trainer_parts};
 use by_listing::form::{block_bytes, counter_bytes, effect_bytes, parts_bytes, Block, Counter, Effect, Parts};
 use by_listing::generate::{generate, mixed, mixed_accepted};
@@ -39,20 +39,7 @@ struct Comparison {
 }
 
 fn main() -> ExitCode {
-    let mut words = env::args().skip(1);
-    let numbers: Result<Vec<u64>, _> =
-        words.by_ref().take_while(|word| word != "--").map(|word| word.parse()).collect();
-    let (seed, inputs) = match numbers.as_deref() {
-        Ok([]) => (1, INPUTS),
-        Ok([seed]) => (*seed, INPUTS),
-        Ok([seed, inputs]) => (*seed, *inputs),
-        _ => return usage(),
-    };
-    let program: Vec<String> = words.collect();
-    if program.is_empty() {
-        return usage();
-    }
-    println!("compare_report: seed {seed}, {inputs} inputs");
+    let Arguments { seed, inputs, program } = Arguments::of("compare_report", INPUTS);
     let mut comparison = Comparison { program, tally: Tally::default(), met: Met::default() };
     comparison.trainers_cases();
     comparison.refusals();
@@ -63,11 +50,6 @@ fn main() -> ExitCode {
     let Comparison { mut tally, met, .. } = comparison;
     met.finish("inputs", &mut tally, 1);
     tally.finish()
-}
-
-fn usage() -> ExitCode {
-    eprintln!("usage: compare_report [SEED [INPUTS]] -- PROGRAM WORD..");
-    ExitCode::from(2)
 }
 
 impl Comparison {

@@ -5,7 +5,7 @@ ghost use lib.ListN.{length};
 ghost use Rattle.report.specs.Adding.{Adds};
 ghost use Rattle.report.specs.Report.{decimal, line as lineText, refusalLine, letterOf, step as stepText, routeLine};
 
-pub fn put(out: &mut [u8], at: usize, bytes: &[u8]) -> usize
+pub(crate) fn put(out: &mut [u8], at: usize, bytes: &[u8]) -> usize
     requires { ⌜ at + length (now bytes) ≤ length (now out) ⌝ }
     ensures { λ r. ⌜ Adds (now (out .entry)) at (now (out .exit)) r (now (bytes .entry)) ⌝ }
 {
@@ -28,7 +28,7 @@ fn number(out: &mut [u8], at: usize, n: u64) -> usize
 }
 
 // A word and a number.
-pub fn line(out: &mut [u8], at: usize, word: &[u8], n: u64) -> usize
+pub(crate) fn line(out: &mut [u8], at: usize, word: &[u8], n: u64) -> usize
     requires { ⌜ at + length (now word) + 21 ≤ length (now out) ⌝ }
     ensures { λ r. ⌜ Adds (now (out .entry)) at (now (out .exit)) r (lineText (now (word .entry)) n) × (r ≤ at + length (now (word .entry)) + 21) ⌝ }
 {
@@ -38,7 +38,7 @@ pub fn line(out: &mut [u8], at: usize, word: &[u8], n: u64) -> usize
 }
 
 // A refusal: its number and place.
-pub fn refused(out: &mut [u8], n: u64, place: u64) -> usize
+pub(crate) fn refused(out: &mut [u8], n: u64, place: u64) -> usize
     requires { ⌜ 60 ≤ length (now out) ⌝ }
     ensures { λ r. ⌜ Adds (now (out .entry)) 0 (now (out .exit)) r (refusalLine n place) × (r ≤ 60) ⌝ }
 {
@@ -72,7 +72,7 @@ fn step(out: &mut [u8], at: usize, block: usize, way: u8) -> usize
 }
 
 // The blocks on the route, with their ways.
-pub fn route(out: &mut [u8], at: usize, bytes: [u8; 64]) -> usize
+pub(crate) fn route(out: &mut [u8], at: usize, bytes: [u8; 64]) -> usize
     requires { ⌜ at + 1414 ≤ length (now out) ⌝ }
     ensures { λ r. ⌜ Adds (now (out .entry)) at (now (out .exit)) r (routeLine bytes) × (r ≤ at + 1414) ⌝ }
 {

@@ -28,7 +28,7 @@ fn test_word(ending: u8) -> u64
 }
 
 // The plan of a body that the reader accepted. The sets are taken apart once, and not for each block.
-pub fn plan_of(body: form::Body) -> [u64; 1024]
+pub(crate) fn plan_of(body: form::Body) -> [u64; 1024]
     requires { ⌜ Sound body ⌝ }
     ensures { λ r. ⌜ Planned body r ⌝ }
 {
