@@ -3,8 +3,8 @@ ghost use Rattle.io.specs.Counts.{Counts};
 use counter::Counted;
 use form::Written;
 use listing::Listed;
-use routes::sweep::SweepAnswer;
-use routes::walk::WalkAnswer;
+use sweep::SweepAnswer;
+use walk::WalkAnswer;
 
 // The report program's table, 1,536 entries of five words, and its walk budget.
 const TABLE_WORDS: usize = 7680;
@@ -100,7 +100,7 @@ pub fn sweep(form: &[u8]) {
     say(b"  sweep:");
     let mut table = [0u64; TABLE_WORDS];
     let mut bytes = [0u8; 64];
-    match routes::sweep::sweep(form, &mut table, &mut bytes) {
+    match sweep::sweep(form, &mut table, &mut bytes) {
         SweepAnswer::Routed {
             iterations,
             weight,
@@ -121,7 +121,7 @@ pub fn walk(form: &[u8], budget: u32) {
     value(b"  walk, budget ", budget as u64);
     say(b":");
     let mut bytes = [0u8; 64];
-    match routes::walk::walk(form, budget, &mut bytes) {
+    match walk::walk(form, budget, &mut bytes) {
         WalkAnswer::Walked {
             iterations,
             weight,

@@ -9,8 +9,8 @@ use mir.Syntax.{w32}
 use mir.Val.{SFits}
 use Rattle.form.specs.Relation.{meets}
 use Rattle.form.specs.Counter.{Count}
-use Rattle.relations.specs.Steps.{Found}
-use Rattle.relations.specs.Loops.{countOf, count-once, count-found, count-few}
+use Rattle.lower_laws.specs.Steps.{Found}
+use Rattle.lower_laws.specs.Loops.{countOf, count-once, count-found, count-few}
 use Rattle.counter.specs.declared.Counted.{Counted}
 use Rattle.counter.specs.declared.Counted.the-variants.{Iterations, Refused}
 use Rattle.counter.specs.Answer.{Values, count, refusal, said, Owed, no-relation, no-count, counted}

@@ -6,9 +6,9 @@ ghost use lib.Dec.{eqb};
 ghost use lib.IntN.{pos, negℤ, _-ℤ_};
 ghost use Rattle.laws.specs.Whole.{up, dn};
 ghost use Rattle.form.specs.Relation.{meets};
-ghost use Rattle.relations.specs.Relations.{mirrored};
-ghost use Rattle.relations.specs.Steps.{later, first, within};
-ghost use Rattle.relations.specs.Loops.{countOf};
+ghost use Rattle.lower_laws.specs.Relations.{mirrored};
+ghost use Rattle.lower_laws.specs.Steps.{later, first, within};
+ghost use Rattle.lower_laws.specs.Loops.{countOf};
 ghost use Rattle.counter.specs.Answer.{Owed, said};
 
 // What the counter answers: the count, or the refusal's number and place.

@@ -7,9 +7,9 @@ use Rattle.form.specs.declared.Written.{Written}
 use Rattle.form.specs.Form.{when, judge, bodyOf, lay}
 use Rattle.form.specs.Answer.{accepted, numberOf, placeOf, writtenNumber, writtenPlace, written, heldAfter}
 use Rattle.counter.specs.Answer as Counter
-use Rattle.routes.specs.WalkAnswer as Walk
-use Rattle.routes.specs.SweepAnswer as Sweep
-use Rattle.routes.specs.declared.sweep.SweepAnswer.{SweepAnswer}
+use Rattle.walk.specs.Answer as Walk
+use Rattle.sweep.specs.Answer as Sweep
+use Rattle.sweep.specs.declared.SweepAnswer.{SweepAnswer}
 use Rattle.desk.specs.declared.CountAnswer.{CountAnswer}
 use Rattle.desk.specs.declared.FormAnswer.{FormAnswer}
 use Rattle.listing.specs.declared.Listed.{Listed}

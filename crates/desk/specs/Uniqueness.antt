@@ -11,9 +11,9 @@ use Rattle.form.specs.Conflict.{conflictBytes}
 use Rattle.laws.specs.Terms.{digit}
 use Rattle.pair.specs.Pair.{conflicting}
 use Rattle.listing.specs.Answer as Conflict
-use Rattle.routes.specs.Accepted as Routes
-use Rattle.routes.specs.WalkAnswer as Walk
-use Rattle.routes.specs.SweepAnswer as Sweep
+use Rattle.plan.specs.Accepted as Routes
+use Rattle.walk.specs.Answer as Walk
+use Rattle.sweep.specs.Answer as Sweep
 use Rattle.desk.specs.declared.CountAnswer.{CountAnswer}
 use Rattle.desk.specs.declared.FormAnswer.{FormAnswer}
 use Rattle.desk.specs.declared.ListNumbers.{ListNumbers}

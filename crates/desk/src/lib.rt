@@ -8,15 +8,15 @@ ghost use Rattle.form.specs.Conflict.{conflictBytes};
 ghost use Rattle.pair.specs.Pair.{conflicting};
 ghost use Rattle.listing.specs.Answer.{listing, heldAfter};
 ghost use Rattle.counter.specs.Answer.{Owed};
-ghost use Rattle.routes.specs.WalkAnswer.{said, WalkOwed};
-ghost use Rattle.routes.specs.SweepAnswer.{SweepOwed};
+ghost use Rattle.walk.specs.Answer.{said, WalkOwed};
+ghost use Rattle.sweep.specs.Answer.{SweepOwed};
 ghost use Rattle.desk.specs.Answer.{countValues, walkNumbers, walkValues, sweepNumbers, sweepValues, sweepSaid, sweptOutcome, OwnSweepOwed, listNumbers, formAnswer, verdictAnswer, writtenAnswer, rewriteAnswer, rewriteHeld};
 use counter::Counted;
 use form::Verdict;
 use form::Written;
 use listing::Listed;
-use routes::sweep::SweepAnswer;
-use routes::walk::WalkAnswer;
+use sweep::SweepAnswer;
+use walk::WalkAnswer;
 
 // A refusal's number and place; number 0: none.
 #[repr(C)]
@@ -111,7 +111,7 @@ pub extern "C" fn somniaret_count(initial: i32, step: i32, relation: u8, limit: 
 pub extern "C" fn somniaret_verdict(bytes: &[u8]) -> FormAnswer
     ensures { λ r. ⌜ r ≡ verdictAnswer (judge (now (bytes .entry))) ⌝ }
 {
-    of_verdict(form::judge(bytes))
+    of_verdict(reader::judge(bytes))
 }
 
 // A form read and its body written back: the bytes written as the place, or the reader's or the writer's refusal.
@@ -119,9 +119,9 @@ pub extern "C" fn somniaret_verdict(bytes: &[u8]) -> FormAnswer
 pub extern "C" fn somniaret_rewrite(bytes: &[u8], out: &mut [u8]) -> FormAnswer
     ensures { λ r. ⌜ (r ≡ rewriteAnswer (now (bytes .entry)) (length (now (out .entry)))) × (now (out .exit) ≡ rewriteHeld (now (bytes .entry)) (now (out .entry))) ⌝ }
 {
-    let reading = form::read(bytes);
+    let reading = reader::read(bytes);
     let verdict = reading.verdict;
-    if !form::accepts(verdict) {
+    if !reader::accepts(verdict) {
         return of_verdict(verdict);
     }
     let body = reading.body;
@@ -206,7 +206,7 @@ fn of_walk(walk: WalkAnswer) -> WalkNumbers
 pub extern "C" fn somniaret_walk(bytes: &[u8], budget: u32, route: &mut [u8]) -> WalkNumbers
     ensures { λ r. ⌜ WalkOwed (now (bytes .entry)) budget (now (route .entry)) (walkValues r, now (route .exit)) ⌝ }
 {
-    of_walk(routes::walk::walk(bytes, budget, route))
+    of_walk(walk::walk(bytes, budget, route))
 }
 
 fn sweep_numbers(
@@ -254,7 +254,7 @@ pub extern "C" fn somniaret_sweep_table(
 ) -> SweepNumbers
     ensures { λ r. ⌜ SweepOwed (now (bytes .entry)) (now (route .entry)) (now (table .entry)) (sweptOutcome r (now (route .exit)) (now (table .exit))) ⌝ }
 {
-    of_sweep(routes::sweep::sweep(bytes, table, route))
+    of_sweep(sweep::sweep(bytes, table, route))
 }
 
 // The same over a table of its own, as large as the report program's: 1,536 entries.

@@ -16,12 +16,12 @@ use Rattle.words.specs.Filled.{Told, bits-fit}
 use Rattle.laws.specs.Sums.{sum, sum-same, sum-add, ones-sum, length-each}
 use Rattle.form.specs.declared.Body.{Body}
 use Rattle.form.specs.Conflict.{Edge, Pair, block, condition, assigned, assignmentPair, edgePair, conflicts, conflictBytes}
-use Rattle.relations.specs.Joined.{byJump, byFall, edgePairs, past-count, denies-none, no-test, opposes-first, assigned-none, jump-none, fall-none, conflicts-by-edge}
+use Rattle.lower_laws.specs.Joined.{byJump, byFall, edgePairs, past-count, denies-none, no-test, opposes-first, assigned-none, jump-none, fall-none, conflicts-by-edge}
 use borrow.Author.Tests.{lt-ltb, le-ltb}
 use Rattle.listing.specs.declared.Listed.the-variants.{Bytes, Unlisted}
 use Rattle.listing.specs.Answer.{listedIn}
-use Rattle.conflict.specs.declared.Firsts.{Firsts}
-use Rattle.conflict.specs.Parts.{FirstsBy}
+use Rattle.path_sets.specs.declared.Firsts.{Firsts}
+use Rattle.path_sets.specs.Parts.{FirstsBy}
 use Rattle.laws.specs.Laid.{Laid, laid-next, laid-room}
 use Rattle.listing.specs.Laying.{entryBytes, wordBytes, edgeBytes}
 

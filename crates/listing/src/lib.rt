@@ -132,7 +132,7 @@ fn all_entries(
     at
 }
 
-fn firsts_number(p: conflict::Firsts) -> usize
+fn firsts_number(p: path_sets::Firsts) -> usize
     requires { ⌜ (length (p .assigned) ≡ 64) × ((length (p .jump) ≡ 64) × (length (p .fall) ≡ 64)) ⌝ }
     ensures { λ r. ⌜ (r ≡ bitsOf (p .assigned) (p .jump) (p .fall)) × (r ≤ 12288) ⌝ }
 {
@@ -142,7 +142,7 @@ fn firsts_number(p: conflict::Firsts) -> usize
     number_of(&a, &j, &f)
 }
 
-fn found_number(f: conflict::Found) -> usize
+fn found_number(f: path_sets::Found) -> usize
     requires { ⌜ Rows (f .variable) (f .jumped .assigned) (f .jumped .jump) (f .jumped .fall) (f .fallen .assigned) (f .fallen .jump) (f .fallen .fall) ⌝ }
     ensures { λ r. ⌜ (r ≡ bitsOf (f .jumped .assigned) (f .jumped .jump) (f .jumped .fall) + bitsOf (f .fallen .assigned) (f .fallen .jump) (f .fallen .fall)) × (r ≤ 24576) ⌝ }
 {
@@ -151,7 +151,7 @@ fn found_number(f: conflict::Found) -> usize
     firsts_number(p) + firsts_number(q)
 }
 
-fn found_entries(out: &mut [u8], f: conflict::Found) -> usize
+fn found_entries(out: &mut [u8], f: path_sets::Found) -> usize
     requires { ⌜ Rows (f .variable) (f .jumped .assigned) (f .jumped .jump) (f .jumped .fall) (f .fallen .assigned) (f .fallen .jump) (f .fallen .fall) × (0 + length (allBytes (f .variable) (f .jumped .assigned) (f .jumped .jump) (f .jumped .fall) (f .fallen .assigned) (f .fallen .jump) (f .fallen .fall)) ≤ length (now out)) ⌝ }
     ensures { λ r. ⌜ (r ≡ 0 + length (allBytes (f .variable) (f .jumped .assigned) (f .jumped .jump) (f .jumped .fall) (f .fallen .assigned) (f .fallen .jump) (f .fallen .fall))) × (now (out .exit) ≡ sets (now (out .entry)) 0 (allBytes (f .variable) (f .jumped .assigned) (f .jumped .jump) (f .jumped .fall) (f .fallen .assigned) (f .fallen .jump) (f .fallen .fall))) ⌝ }
 {
@@ -171,7 +171,7 @@ fn list_of(body: form::Body, out: &mut [u8]) -> Listed
     requires { ⌜ Sound body ⌝ }
     ensures { λ r. ⌜ (r ≡ listedIn body (length (now (out .entry)))) × (now (out .exit) ≡ heldAfter r (conflictBytes body) (now (out .entry))) ⌝ }
 {
-    let f = conflict::find(body);
+    let f = path_sets::find(body);
     let bytes = 5 * found_number(f);
     if out.len() < bytes {
         return Listed::Unlisted {
@@ -187,7 +187,7 @@ fn list_of(body: form::Body, out: &mut [u8]) -> Listed
 pub fn conflicts(form: &[u8], out: &mut [u8]) -> Listed
     ensures { λ r. ⌜ (r ≡ listing (now (form .entry)) (length (now (out .entry)))) × (now (out .exit) ≡ heldAfter r (conflictBytes (bodyOf (now (form .entry)))) (now (out .entry))) ⌝ }
 {
-    let reading = form::read(form);
+    let reading = reader::read(form);
     let verdict = reading.verdict;
     match verdict {
         form::Verdict::Refused { number, place } => Listed::Unlisted { number, place },

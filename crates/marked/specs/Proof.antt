@@ -23,9 +23,9 @@ use Rattle.form.specs.Answer.{accepted}
 use Rattle.form.specs.Conflict.{block, effectsBelow, effectsOf, touches, lastOn, exits, isTest, condition, contradict, opposes, denies}
 use Rattle.form.specs.Counter.{Count}
 use Rattle.form.specs.Form.{recordLength, startsFor, recordsFrom, badField, badTarget, outOfPlace, overLimit, payloadFault, recordFault, endFault, judgeEnds, judgeRecords, judge, ownEffects, gather, fill, bodyOf}
-use Rattle.relations.specs.Conditions.{contradict-says}
-use Rattle.relations.specs.Loops.{countOf, count-found}
-use Rattle.relations.specs.Steps.{later, first, within, found-none, found-some}
+use Rattle.lower_laws.specs.Conditions.{contradict-says}
+use Rattle.lower_laws.specs.Loops.{countOf, count-found}
+use Rattle.lower_laws.specs.Steps.{later, first, within, found-none, found-some}
 use Rattle.theory.specs.Route.{Path, stepCost, paths, conflict, tails, weight, best, bestRoute, wayOf, routeBytes}
 use Rattle.marked.specs.Table.{Case, counts, refused, conflicting, compatible, route, on, Claim, table}
 

@@ -5,7 +5,7 @@ use mathlib.Core.Bool.{Bool, true}
 use Prim.Native.Nat.{ℕ}
 use lib.IntN.{ℤ}
 use Rattle.form.specs.Relation.{meets}
-use Rattle.relations.specs.Conditions.{contradict-says}
+use Rattle.lower_laws.specs.Conditions.{contradict-says}
 use Rattle.pair.specs.Pair.{condition, conflicting}
 
 module _ (relation1 : ℕ) (constant1 : ℤ) (relation2 : ℕ) (constant2 : ℤ) where

@@ -2,7 +2,7 @@
 // form's Conflict.
 ghost use mathlib.Core.Path.{_≡_};
 ghost use lib.Signed.{ltZ};
-ghost use Rattle.relations.specs.PairTest.{low, level, high, apart, someOf};
+ghost use Rattle.lower_laws.specs.PairTest.{low, level, high, apart, someOf};
 ghost use Rattle.pair.specs.Pair.{conflicting};
 
 // Whether the numbers below the constant meet the relation to it.

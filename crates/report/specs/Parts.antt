@@ -16,10 +16,10 @@ use Rattle.listing.specs.declared.Listed.{Listed}
 use Rattle.listing.specs.declared.Listed.the-variants.{Bytes, Unlisted}
 use Rattle.listing.specs.Answer.{listing, asJudged}
 use Rattle.listing.specs.Listing.{bytes-length}
-use Rattle.routes.specs.declared.sweep.SweepAnswer.{SweepAnswer}
-use Rattle.routes.specs.declared.sweep.SweepAnswer.the-variants.{Routed, Refused as Unswept}
-use Rattle.routes.specs.declared.walk.WalkAnswer.{WalkAnswer}
-use Rattle.routes.specs.WalkAnswer.{WalkOwed, said}
+use Rattle.sweep.specs.declared.SweepAnswer.{SweepAnswer}
+use Rattle.sweep.specs.declared.SweepAnswer.the-variants.{Routed, Refused as Unswept}
+use Rattle.walk.specs.declared.WalkAnswer.{WalkAnswer}
+use Rattle.walk.specs.Answer.{WalkOwed, said}
 use Rattle.table.specs.Answer.{OwnTableOwed}
 use Rattle.table.specs.Uniqueness.{own-answered}
 use Rattle.report.specs.Report.{line, refusalLine, routeLine, walkedLine, blocksWord, iterationsWord, conflictsWord, weightWord, boundWord, keptWord, noRoute, budget, Reported}

@@ -16,15 +16,15 @@ use Rattle.form.specs.Form.{judge, bodyOf}
 use Rattle.roundtrip.specs.Front.{front, front-all}
 use Rattle.roundtrip.specs.Sound.{sound}
 use Rattle.theory.specs.Route.{Path, stepCost, bestRoute, walked}
-use Rattle.routes.specs.Owed.{Owed}
-use Rattle.routes.specs.Owed.Owed.{no-form, no-count, counted}
-use Rattle.routes.specs.declared.sweep.SweepAnswer.the-variants.{Routed, Refused as Unswept}
-use Rattle.routes.specs.SweepAnswer as sweep
-use Rattle.routes.specs.SweepAnswer.{OutcomeOver}
-use Rattle.routes.specs.SweepPromise.{Answered}
-use Rattle.routes.specs.declared.walk.WalkAnswer.the-variants.{Refused}
-use Rattle.routes.specs.WalkAnswer as walk
-use Rattle.routes.specs.WalkPromise.{one-walk}
+use Rattle.plan.specs.Owed.{Owed}
+use Rattle.plan.specs.Owed.Owed.{no-form, no-count, counted}
+use Rattle.sweep.specs.declared.SweepAnswer.the-variants.{Routed, Refused as Unswept}
+use Rattle.sweep.specs.Answer as sweep
+use Rattle.sweep.specs.Answer.{OutcomeOver}
+use Rattle.ways.specs.Promise.{Answered}
+use Rattle.walk.specs.declared.WalkAnswer.the-variants.{Refused}
+use Rattle.walk.specs.Answer as walk
+use Rattle.walk.specs.Promise.{one-walk}
 use Rattle.table.specs.declared.Entry.{Entry}
 use Rattle.table.specs.Answer.{tableWith, under, TableOwed, ownTable}
 use Rattle.table.specs.Uniqueness.{table-answered, own-answered, one-own}

@@ -9,10 +9,10 @@ use lib.ListN.{length, replicate}
 use Rattle.form.specs.declared.Body.{Body}
 use Rattle.form.specs.Form.{bodyOf}
 use Rattle.form.specs.Conflict.{conflicts}
-use Rattle.routes.specs.declared.sweep.SweepAnswer.the-variants.{Routed, Refused as Unswept}
-use Rattle.routes.specs.declared.walk.WalkAnswer.{WalkAnswer}
-use Rattle.routes.specs.declared.walk.WalkAnswer.the-variants.{Walked, Refused}
-use Rattle.routes.specs.WalkAnswer.{WalkOwed, said}
+use Rattle.sweep.specs.declared.SweepAnswer.the-variants.{Routed, Refused as Unswept}
+use Rattle.walk.specs.declared.WalkAnswer.{WalkAnswer}
+use Rattle.walk.specs.declared.WalkAnswer.the-variants.{Walked, Refused}
+use Rattle.walk.specs.Answer.{WalkOwed, said}
 use Rattle.table.specs.Answer.{OwnTableOwed}
 
 -- ---- the words

@@ -14,8 +14,8 @@ ghost use Rattle.report.specs.Parts.{WalkedAdds, ThreeAdds, fiveLines};
 mod text;
 
 use listing::Listed;
-use routes::sweep::SweepAnswer;
-use routes::walk::WalkAnswer;
+use sweep::SweepAnswer;
+use walk::WalkAnswer;
 
 // How many entries the conflict list has: asked with no room, it tells the bytes that it needs, five an entry.
 fn entries(form: &[u8]) -> u64
@@ -33,7 +33,7 @@ fn five_lines(out: &mut [u8], form: &[u8], iterations: u64, weight: u64, bound: 
     requires { ⌜ 200 ≤ length (now out) ⌝ }
     ensures { λ r. ⌜ (judge (now (form .entry)) ≡ Accepted → Adds (now (out .entry)) 0 (now (out .exit)) r (fiveLines (bodyOf (now (form .entry))) iterations weight bound)) × (r ≤ 200) ⌝ }
 {
-    let reading = form::read(form);
+    let reading = reader::read(form);
     let body = reading.body;
     let a = text::line(out, 0, b"blocks ", body.count as u64);
     let b = text::line(out, a, b"iterations ", iterations);
@@ -48,7 +48,7 @@ fn walked_line(out: &mut [u8], at: usize, form: &[u8]) -> usize
     ensures { λ r. ⌜ WalkedAdds (now (form .entry)) (now (out .entry)) at (now (out .exit)) r ⌝ }
 {
     let mut route = [0u8; 64];
-    match routes::walk::walk(form, 100000, &mut route) {
+    match walk::walk(form, 100000, &mut route) {
         WalkAnswer::Walked {
             iterations: _,
             weight: _,

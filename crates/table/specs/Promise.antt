@@ -17,13 +17,13 @@ use Rattle.form.specs.Answer.{accepted}
 use Rattle.theory.specs.Route.{Path, stepCost, bestRoute}
 use Rattle.theory.specs.Row as theory
 use Rattle.theory.specs.Row.{filled, highest, crowded}
-use Rattle.routes.specs.Owed.{CountOf}
-use Rattle.routes.specs.Owed.Owed.{no-form, no-count, counted}
-use Rattle.routes.specs.SweepTerms as flat
-use Rattle.routes.specs.SweepAnswer as routes
-use Rattle.routes.specs.SweepAnswer.{Values, refusal, said, outcomeOf, refused, rowsOf}
-use Rattle.routes.specs.declared.sweep.SweepAnswer.{SweepAnswer}
-use Rattle.routes.specs.declared.sweep.SweepAnswer.the-variants.{Routed, Refused}
+use Rattle.plan.specs.Owed.{CountOf}
+use Rattle.plan.specs.Owed.Owed.{no-form, no-count, counted}
+use Rattle.sweep.specs.Terms as flat
+use Rattle.sweep.specs.Answer as routes
+use Rattle.sweep.specs.Answer.{Values, refusal, said, outcomeOf, refused, rowsOf}
+use Rattle.sweep.specs.declared.SweepAnswer.{SweepAnswer}
+use Rattle.sweep.specs.declared.SweepAnswer.the-variants.{Routed, Refused}
 use Rattle.table.specs.declared.Entry.{Entry}
 use Rattle.table.specs.declared.Rows.{Rows}
 use Rattle.table.specs.declared.Swept.{Swept}

@@ -14,9 +14,9 @@ use Rattle.form.specs.declared.Verdict.the-variants.{Accepted, Refused as Unrea
 use Rattle.form.specs.Form.{when, judge, bodyOf, zeroBody}
 use Rattle.form.specs.Answer.{accepted, reading}
 use Rattle.roundtrip.specs.Sound.{sound}
-use Rattle.routes.specs.declared.sweep.SweepAnswer.{SweepAnswer}
-use Rattle.routes.specs.declared.sweep.SweepAnswer.the-variants.{Routed, Refused}
-use Rattle.routes.specs.SweepAnswer as flat
+use Rattle.sweep.specs.declared.SweepAnswer.{SweepAnswer}
+use Rattle.sweep.specs.declared.SweepAnswer.the-variants.{Routed, Refused}
+use Rattle.sweep.specs.Answer as flat
 use Rattle.table.specs.declared.Rows.{Rows}
 use Rattle.table.specs.declared.Swept.{Swept}
 

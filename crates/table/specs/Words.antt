@@ -15,11 +15,11 @@ use Rattle.form.specs.Form.{bodyOf}
 use Rattle.theory.specs.Route.{Path, stepCost, bestRoute}
 use Rattle.theory.specs.Row as theory
 use Rattle.theory.specs.Row.{filled, crowded}
-use Rattle.routes.specs.Owed.Owed.{no-form, no-count, counted}
-use Rattle.routes.specs.SweepTerms as flat
-use Rattle.routes.specs.SweepTerms.{flat}
-use Rattle.routes.specs.SweepAnswer as routes
-use Rattle.routes.specs.SweepAnswer.{OutcomeOver, refused, rowsOf, routedOver, sweptOver, outcomeOver}
+use Rattle.plan.specs.Owed.Owed.{no-form, no-count, counted}
+use Rattle.sweep.specs.Terms as flat
+use Rattle.sweep.specs.Terms.{flat}
+use Rattle.sweep.specs.Answer as routes
+use Rattle.sweep.specs.Answer.{OutcomeOver, refused, rowsOf, routedOver, sweptOver, outcomeOver}
 use Rattle.table.specs.declared.Entry.{Entry}
 use Rattle.table.specs.Answer.{entryFrom, noEntry, tableWith, under, TableOwed}
 use Rattle.table.specs.Stored.{entryAt}

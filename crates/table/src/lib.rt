@@ -4,11 +4,11 @@
 ghost use mathlib.Core.Path.{_≡_};
 ghost use Prim.Native.Nat.{min, _+_, _*_, _≤_};
 ghost use lib.ListN.{length};
-ghost use Rattle.routes.specs.SweepAnswer.{outcomeOf};
+ghost use Rattle.sweep.specs.Answer.{outcomeOf};
 ghost use Rattle.table.specs.Answer.{TableOwed, OwnTableOwed};
 ghost use Rattle.table.specs.Stored.{entryAt, stored};
 ghost use Rattle.table.specs.Swept.{blocks, rowsFor, SweptWords};
-use routes::sweep::SweepAnswer;
+use sweep::SweepAnswer;
 
 // Jump set, fall set, weight of the heaviest such tail, and of the first of those the blocks left by jump or go and the blocks left by fall.
 #[repr(C)]
@@ -73,7 +73,7 @@ struct Swept {
 fn blocks_of(form: &[u8]) -> usize
     ensures { λ r. ⌜ r ≡ blocks (now (form .entry)) ⌝ }
 {
-    let reading = form::read(form);
+    let reading = reader::read(form);
     let body = reading.body;
     body.count
 }
@@ -84,7 +84,7 @@ fn sweep_words(form: &[u8], room: usize, words: &mut [u64], route: &mut [u8]) ->
     ensures { λ r. ⌜ SweptWords (now (form .entry)) room (now (route .entry)) (now (words .exit)) (now (route .exit)) r ⌝ }
 {
     let end = 5 * lesser(room, 4096);
-    let answer = routes::sweep::sweep(form, &mut words[..end], route);
+    let answer = sweep::sweep(form, &mut words[..end], route);
     let rows = rows_of(answer, blocks_of(form));
     Swept {
         answer,

@@ -19,7 +19,7 @@ use Rattle.laws.specs.Lists.{only-out, only-same, only-swap, only-map, map-same
 use Rattle.laws.specs.Rows.{put}
 use Rattle.form.specs.declared.Body.{Body}
 use Rattle.form.specs.Conflict.{Edge, Pair, Onward, secondOf, same, listed}
-use Rattle.relations.specs.ConflictList.{exits-ordered}
+use Rattle.lower_laws.specs.ConflictList.{exits-ordered}
 use Rattle.theory.specs.Route.{Path, lastBlock, paths, conflict, tails, routes, weighed, best, bestRoute, walked}
 use Rattle.theory.specs.Row.{Key, keyBefore, bare, openEdges, addKey, keys, ofKey, found, rowOf, openTails}
 use Rattle.theory.specs.Machine.{Val, better, Machine, Forward, passedFrom, built}

@@ -13,7 +13,7 @@ use Rattle.form.specs.Conflict.{Edge, Pair, exits, isTest, condition, opposes, 
 use Rattle.theory.specs.Route.{Path, conflict}
 use Rattle.theory.specs.Row.{Key, bare, openEdges}
 use Rattle.theory.specs.Machine.{Machine}
-use Rattle.relations.specs.Listed.{Way, Real, denies-test, same-refl, same-eq}
+use Rattle.lower_laws.specs.Listed.{Way, Real, denies-test, same-refl, same-eq}
 use Rattle.theory.specs.Steps.{Leads, wipes, against, real-inside, real-way, hit, hit-of, hit-out, conflict-nil, conflict-cons, bare-nil, bare-cons, bare-real, bare-clean}
 use Rattle.theory.specs.Edges.{has, edgesOf, anyEdge, noEdges, has-edgesOf, any-edge-in, any-edge-out, edges-same, edges-none}
 

@@ -23,8 +23,8 @@ use Rattle.form.specs.declared.Body.{Body}
 use Rattle.form.specs.declared.Effect.{Effect}
 use Rattle.form.specs.Relation.{meets, opposite}
 use Rattle.form.specs.Conflict.{Edge, Condition, block, effectsOf, exitsBy, exits, isTest, condition, met, opposes, denies, touches, later, lastOn, refuses, Onward, Sound}
-use Rattle.relations.specs.Relations.{opposite-is}
-use Rattle.relations.specs.Conditions.{contradict-says}
+use Rattle.lower_laws.specs.Relations.{opposite-is}
+use Rattle.lower_laws.specs.Conditions.{contradict-says}
 use Rattle.theory.specs.Route.{Path, lastBlock, paths, conflict, tails, routes, weight, weighed, choose, best, bestRoute}
 use Rattle.theory.specs.Run.{State, Does, Do, holdsAt, Leaves, Iteration, Beginning, Run, runCost}
 use Rattle.theory.specs.Run.Do.{done, does}
@@ -32,7 +32,7 @@ use Rattle.theory.specs.Run.Iteration.{ends, goes}
 use Rattle.theory.specs.Run.Beginning.{stops, passes}
 use Rattle.theory.specs.Run.Run.{rests, repeats, breaks}
 use Rattle.theory.specs.Passes.{leads-path}
-use Rattle.relations.specs.Listed.{denies-test, opposes-out}
+use Rattle.lower_laws.specs.Listed.{denies-test, opposes-out}
 use Rattle.theory.specs.Steps.{Leads, wipes, against, hit, hit-nil, hit-cons, conflict-nil, conflict-cons}
 
 -- ---- effects

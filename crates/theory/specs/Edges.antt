@@ -14,7 +14,7 @@ use Rattle.laws.specs.Tests.{both, clash, any-in, any-out, or-out, or-in-left, 
 use Rattle.laws.specs.Sets.{ext, setOf-lt, bit-setOf, bit-setOf-beyond, bit-none, bit-or, setOf-ext, setOf-zero, zero-bits, some-bit, test-true, below-or-not}
 use Rattle.form.specs.Conflict.{Edge}
 use Rattle.theory.specs.Row.{Key}
-use Rattle.relations.specs.Listed.{Way}
+use Rattle.lower_laws.specs.Listed.{Way}
 
 -- e is in the set
 unfoldable pub has : Key → Edge → Bool

@@ -11,7 +11,7 @@ use Rattle.form.specs.Conflict.{Edge, exits, opposes, denies, Onward}
 use Rattle.theory.specs.Route.{Path, conflict}
 use Rattle.theory.specs.Row.{Key}
 use Rattle.theory.specs.Machine.{Machine}
-use Rattle.relations.specs.Listed.{Real}
+use Rattle.lower_laws.specs.Listed.{Real}
 use Rattle.theory.specs.Steps.{Leads, wipes, real-inside, real-way, hit, hit-nil, hit-cons, hit-or, hit-of, hit-out, conflict-nil, conflict-cons, bare-real}
 use Rattle.theory.specs.Edges.{has, edgesOf, noEdges, has-edgesOf, has-none}
 

@@ -18,9 +18,12 @@ pub mod Forward
 pub mod Listing
 -- The answer (theorem 4), the bound (theorem 5), and both ways on words.
 pub mod Passes
+pub mod Best
 pub mod Answer
 pub mod Bound
 pub mod Ties
 pub mod SweepWords
 pub mod WalkWords
 pub mod Main
+-- What the walks need of a body, as words.
+pub mod Plan

@@ -7,9 +7,9 @@ use native.Mathlib.Omega.{arith}
 use Rattle.laws.specs.Tests.{or-out}
 use Rattle.form.specs.declared.Body.{Body}
 use Rattle.form.specs.Conflict.{Pair, isTest, condition, opposes, Onward, secondOf, assignmentPair, edgePair, conflicts, Holds}
-use Rattle.relations.specs.Conditions.{contradict-says}
-use Rattle.relations.specs.ConflictList.{conflicts-hold}
-use Rattle.relations.specs.Listed.{listed-in, listed-out, denies-test, opposes-out}
+use Rattle.lower_laws.specs.Conditions.{contradict-says}
+use Rattle.lower_laws.specs.ConflictList.{conflicts-hold}
+use Rattle.lower_laws.specs.Listed.{listed-in, listed-out, denies-test, opposes-out}
 use Rattle.theory.specs.Backward.{Listing}
 
 module _ (body : Body) where

@@ -14,9 +14,9 @@ use Rattle.laws.specs.Tests.{split, clash, and-out, and-in, or-out, or-in-left,
 use Rattle.laws.specs.Lists.{each-in, map-in}
 use Rattle.form.specs.declared.Body.{Body}
 use Rattle.form.specs.Conflict.{Edge, exits, isTest, condition, touches, opposes, denies, Contradict, Onward, Sound}
-use Rattle.relations.specs.Conditions.{contradict-says}
+use Rattle.lower_laws.specs.Conditions.{contradict-says}
 use Rattle.theory.specs.Route.{Path, lastBlock, paths, beginnings, at, overwritten, conflict}
-use Rattle.relations.specs.Listed.{opposes-out}
+use Rattle.lower_laws.specs.Listed.{opposes-out}
 use Rattle.theory.specs.Steps.{Leads}
 use Rattle.theory.specs.Passes.{paths-lead, leads-path, beginnings-lead}
 

@@ -11,7 +11,7 @@ use Rattle.laws.specs.Tests.{four, nor, nor-swap, and-out, and-in, or-no, not-o
 use Rattle.form.specs.declared.Body.{Body}
 use Rattle.form.specs.Conflict.{Edge, exits, condition, touches, opposes, denies, Onward, Clean, same}
 use Rattle.form.specs.Conflict.Clean.{here, onward}
-use Rattle.relations.specs.Listed.{same-refl, same-eq, Way, way-of, Real}
+use Rattle.lower_laws.specs.Listed.{same-refl, same-eq, Way, way-of, Real}
 use Rattle.theory.specs.Route.{Path, at, conflict}
 use Rattle.theory.specs.Row.{bare}
 

@@ -29,7 +29,7 @@ use Rattle.theory.specs.Backward.{Listing, stepBack, backMachine}
 use Rattle.theory.specs.Passes.{paths-lead}
 use Rattle.theory.specs.Ties.{mark, earlier, left-cons, left-nil, earlier-first, left-lt}
 use Rattle.theory.specs.Answer.{key-order, passed-tails, sweep-row, row-zero}
-use Rattle.relations.specs.ConflictList.{exits-ordered}
+use Rattle.lower_laws.specs.ConflictList.{exits-ordered}
 
 -- what is kept of a path: its weight, the blocks left by jump or go, the blocks left by fall
 abbrev pub Words : Type 0

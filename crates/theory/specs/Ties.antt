@@ -21,7 +21,7 @@ use Rattle.form.specs.Conflict.{Edge, block, exitsBy, exits, Onward, same}
 use Rattle.theory.specs.Route.{Path, lastBlock, wayOf}
 use Rattle.theory.specs.Row.{leftBy}
 use Rattle.theory.specs.Machine.{edgeBefore, edge-order, first, first-order}
-use Rattle.relations.specs.Listed.{Way, way-of, same-eq}
+use Rattle.lower_laws.specs.Listed.{Way, way-of, same-eq}
 use Rattle.theory.specs.Steps.{Leads}
 
 -- the path leaves block k by the way

@@ -6,7 +6,7 @@ use native.Mathlib.Omega.{arith}
 use mir.Facts.{toZ-ofZ}
 use Rattle.laws.specs.Whole.{up, no-dn}
 use Rattle.laws.specs.Signed.{sfits-up}
-use Rattle.relations.specs.Steps.{later}
+use Rattle.lower_laws.specs.Steps.{later}
 use Rattle.counter.proofs.above.Statement.{statement}
 use Rattle.counter.proofs.above.Tie as tie
 

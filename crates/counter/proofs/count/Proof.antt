@@ -3,8 +3,8 @@ use borrow.Author.Needs.{needs}
 use mathlib.Core.Path.{refl, sym, _∙_, subst}
 use mir.Facts.{toZ-ofZ}
 use Rattle.form.specs.Counter.{Count}
-use Rattle.relations.specs.Steps.{Found, found-none, found-some}
-use Rattle.relations.specs.Loops.{countOf, count-found}
+use Rattle.lower_laws.specs.Steps.{Found, found-none, found-some}
+use Rattle.lower_laws.specs.Loops.{countOf, count-found}
 use Rattle.counter.specs.Answer.{no-relation, no-count, counted}
 use Rattle.counter.proofs.count.Statement.{statement}
 use Rattle.counter.proofs.count.Tie as tie

@@ -7,8 +7,8 @@ use mir.Syntax.{w32, w64}
 use mir.Val.{SFits, toZ, ofZ}
 use Rattle.laws.specs.Whole.{up, dn, up-neg}
 use Rattle.laws.specs.Signed.{handed, widened-diff}
-use Rattle.relations.specs.Steps.{within}
-use Rattle.relations.specs.Loops.{smallest, some-room-down, count-down}
+use Rattle.lower_laws.specs.Steps.{within}
+use Rattle.lower_laws.specs.Loops.{smallest, some-room-down, count-down}
 use Rattle.counter.proofs.downward.Statement.{statement}
 use Rattle.counter.proofs.downward.Tie as tie
 

@@ -8,7 +8,7 @@ use lib.Dec.{eqb}
 use lib.IntN.{pos}
 use mir.Facts.{toZ-ofZ}
 use Rattle.laws.specs.Whole.{up, dn, no-dn, not-positive, leZ-true, leZ-false}
-use Rattle.relations.specs.Steps.{later}
+use Rattle.lower_laws.specs.Steps.{later}
 use Rattle.counter.proofs.exactly.Statement.{statement}
 use Rattle.counter.proofs.exactly.Tie as tie
 

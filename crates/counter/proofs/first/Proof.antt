@@ -11,7 +11,7 @@ use mir.Syntax.{w64}
 use mir.Val.{toZ, ofZ}
 use Rattle.form.specs.Relation.{meets}
 use Rattle.laws.specs.Whole.{up, no-dn, is-pos, ltZ-true, leZ-true}
-use Rattle.relations.specs.Steps.{later, later-never, first}
+use Rattle.lower_laws.specs.Steps.{later, later-never, first}
 use Rattle.counter.proofs.first.Statement.{statement}
 use Rattle.counter.proofs.first.Tie as tie
 

@@ -4,7 +4,7 @@ use mathlib.Core.Bool.{false}
 use native.Mathlib.Omega.{arith}
 use mir.Facts.{toZ-ofZ}
 use Rattle.form.specs.Relation.{meets}
-use Rattle.relations.specs.Relations.{eq-bits, above-five}
+use Rattle.lower_laws.specs.Relations.{eq-bits, above-five}
 use Rattle.counter.proofs.meets.Statement.{statement}
 use Rattle.counter.proofs.meets.Tie as tie
 

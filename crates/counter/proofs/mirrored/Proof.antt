@@ -2,7 +2,7 @@
 use borrow.Author.Needs.{needs}
 use mathlib.Core.Path.{_≡_, refl}
 use native.Mathlib.Omega.{arith}
-use Rattle.relations.specs.Relations.{mirrored, above-five}
+use Rattle.lower_laws.specs.Relations.{mirrored, above-five}
 use Rattle.counter.proofs.mirrored.Statement.{statement}
 use Rattle.counter.proofs.mirrored.Tie as tie
 

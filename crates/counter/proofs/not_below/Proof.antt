@@ -9,7 +9,7 @@ use mir.Syntax.{w64}
 use mir.Val.{SFits, toZ, ofZ}
 use Rattle.laws.specs.Whole.{up, one-less}
 use Rattle.laws.specs.Signed.{sfits-up}
-use Rattle.relations.specs.Steps.{later}
+use Rattle.lower_laws.specs.Steps.{later}
 use Rattle.counter.proofs.not_below.Statement.{statement}
 use Rattle.counter.proofs.not_below.Tie as tie
 

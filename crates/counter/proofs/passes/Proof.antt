@@ -7,7 +7,7 @@ use mir.Facts.{toZ-ofZ}
 use mir.Syntax.{w32}
 use mir.Val.{toZ, ofZ}
 use Rattle.laws.specs.Whole.{same-whole, ltZ-true, ltZ-false}
-use Rattle.relations.specs.Loops.{countOf}
+use Rattle.lower_laws.specs.Loops.{countOf}
 use Rattle.counter.proofs.passes.Statement.{statement}
 use Rattle.counter.proofs.passes.Tie as tie
 

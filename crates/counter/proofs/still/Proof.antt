@@ -4,7 +4,7 @@ use mathlib.Core.Path.{_≡_, sym, _∙_, ap}
 use mathlib.Core.Bool.{Bool, cond}
 use Rattle.form.specs.Relation.{meets}
 use Rattle.laws.specs.Signed.{widened}
-use Rattle.relations.specs.Loops.{countOf}
+use Rattle.lower_laws.specs.Loops.{countOf}
 use Rattle.counter.proofs.still.Statement.{statement}
 use Rattle.counter.proofs.still.Tie as tie
 

@@ -7,8 +7,8 @@ use mir.Syntax.{w32, w64}
 use mir.Val.{SFits, toZ, ofZ}
 use Rattle.laws.specs.Whole.{up}
 use Rattle.laws.specs.Signed.{widened, widened-diff}
-use Rattle.relations.specs.Steps.{within}
-use Rattle.relations.specs.Loops.{greatest, some-room-up, count-up}
+use Rattle.lower_laws.specs.Steps.{within}
+use Rattle.lower_laws.specs.Loops.{greatest, some-room-up, count-up}
 use Rattle.counter.proofs.upward.Statement.{statement}
 use Rattle.counter.proofs.upward.Tie as tie
 

@@ -5,7 +5,7 @@ use Prim.Native.Nat.{_/_}
 use native.Mathlib.Omega.{arith}
 use mir.Facts.{toZ-ofZ}
 use Rattle.laws.specs.Whole.{up}
-use Rattle.relations.specs.Steps.{first, within-room, beyond-room}
+use Rattle.lower_laws.specs.Steps.{first, within-room, beyond-room}
 use Rattle.counter.proofs.within.Statement.{statement}
 use Rattle.counter.proofs.within.Tie as tie
 

@@ -1,6 +1,6 @@
 -- `desk::somniaret_sweep_table` meets its contract: the sweep's own answer, in numbers.
 use mathlib.Core.Path.{subst, sym}
-use Rattle.routes.specs.SweepAnswer.{Values, SweepOwed}
+use Rattle.sweep.specs.Answer.{Values, SweepOwed}
 use borrow.Author.Needs.{needs}
 use Rattle.desk.proofs.somniaret_sweep_table.Statement.{statement}
 use Rattle.desk.proofs.somniaret_sweep_table.Tie as tie

@@ -1,6 +1,6 @@
 -- `desk::somniaret_walk` meets its contract: the walk's own answer, in numbers.
 use mathlib.Core.Path.{subst, sym}
-use Rattle.routes.specs.WalkAnswer.{Values, WalkOwed}
+use Rattle.walk.specs.Answer.{Values, WalkOwed}
 use borrow.Author.Needs.{needs}
 use Rattle.desk.proofs.somniaret_walk.Statement.{statement}
 use Rattle.desk.proofs.somniaret_walk.Tie as tie

@@ -2,7 +2,7 @@
 use mathlib.Core.Path.{sym}
 use mir.Facts.{toZ-ofZ}
 use mir.Syntax.{w32}
-use Rattle.relations.specs.PairTest.{predecessor-fits, not-apart}
+use Rattle.lower_laws.specs.PairTest.{predecessor-fits, not-apart}
 use Rattle.pair.proofs.apart.Statement.{statement}
 use Rattle.pair.proofs.apart.Tie as tie
 

@@ -1,6 +1,6 @@
 -- `pair::conflicting` meets its contract.
 use mir.Facts.{toZ-ofZ}
-use Rattle.relations.specs.PairTest.{shares, test-is}
+use Rattle.lower_laws.specs.PairTest.{shares, test-is}
 use borrow.Author.Needs.{needs}
 use Rattle.pair.proofs.conflicting.Statement.{statement}
 use Rattle.pair.proofs.conflicting.Tie as tie

@@ -43,11 +43,11 @@ use denote.Triple.Table.{entered, cited}
 use denote.Triple.Walked.{says, Stays, stay-none-slice, gave-slice, walkOf, goes-none-slice, goes-gave-slice, Walks, ends-at, walked, walk-meets}
 use denote.Exit.{yes}
 use denote.Signature.{plain}
-use Rattle.routes.specs.declared.sweep.SweepAnswer.{SweepAnswer}
-use Rattle.routes.proofs.sweep.SweepAnswer as S
-use Rattle.routes.proofs.sweep.SweepAnswer.Laws as S′
+use Rattle.sweep.specs.declared.SweepAnswer.{SweepAnswer}
+use Rattle.sweep.proofs.SweepAnswer as S
+use Rattle.sweep.proofs.SweepAnswer.Laws as S′
 use Rattle.table.specs.declared.Entry.{Entry}
-use Rattle.routes.specs.SweepAnswer.{outcomeOf}
+use Rattle.sweep.specs.Answer.{outcomeOf}
 use Rattle.table.specs.Answer.{noEntry, TableOwed}
 use Rattle.table.proofs.Lent.{big-lit, arrayTy, repeated-length, repeated-typed, repeated-out, array-in}
 use Rattle.table.proofs.Entry as T

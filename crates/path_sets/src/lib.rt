@@ -1,0 +1,248 @@
+// The conflicts of a body: the sets of edges that the walks need, and for each edge the firsts that the conflict list pairs with it. The meaning is in specs/ and in
+// form's Conflict.
+ghost use mathlib.Core.Path.{_≡_};
+ghost use mathlib.Core.Bool.{true, false};
+ghost use Prim.Native.Nat.{_<_};
+ghost use lib.ListN.{length};
+ghost use Rattle.form.specs.Conflict.{Sound};
+ghost use Rattle.words.specs.Filled.{Told};
+ghost use Rattle.path_sets.specs.Sets.{setsOf};
+ghost use Rattle.path_sets.specs.Parts.{EitherAt, ListedAt, LowestFirsts, Above, noReach, ReachOf, FirstsOf, ListedOf, FoundOf};
+
+// What the walks need of a body: where each block's ways lead; the tests that it touches; the edges that its effects deny; the edges that its edge by
+// jump, and that by fall, conflicts with; and those that the conflict list pairs with a first below it.
+pub struct Sets {
+    pub targets: local_sets::Targets,
+    pub touched: [u64; 64],
+    pub denied: local_sets::Edges,
+    pub jumping: local_sets::Edges,
+    pub falling: local_sets::Edges,
+    pub listed: local_sets::Edges,
+}
+
+// The blocks from which a jump, and those from which a fall, leads to a clean path to a test; and those whose effects deny the test's edge by one way and
+// from which such a path leads, or which are its own.
+struct Reach {
+    jump: u64,
+    fall: u64,
+    assigned: u64,
+}
+
+// For each block's edge by one way, the blocks that the conflict list pairs with it as firsts: by assignment, by their jump edge and by their fall edge.
+pub struct Firsts {
+    pub assigned: [u64; 64],
+    pub jump: [u64; 64],
+    pub fall: [u64; 64],
+}
+
+// From which blocks a jump or a fall leads to s by a path that does not touch test s, and which assign against its edge: the blocks from s down.
+fn reach_of(jump: &[usize], fall: &[usize], touched: &[u64], denied: &[u64], s: usize) -> Reach
+    requires { ⌜ ((length (now jump) ≡ 64) × ((length (now fall) ≡ 64) × ((length (now touched) ≡ 64) × (length (now denied) ≡ 64)))) × ((s < 64) × (Above (now jump) × Above (now fall))) ⌝ }
+    ensures { λ r. ⌜ ReachOf (now (jump .entry)) (now (fall .entry)) (now (touched .entry)) (now (denied .entry)) s r ⌝ }
+{
+    let mut clean = 0;
+    let mut by_jump = 0;
+    let mut by_fall = 0;
+    let mut assigned = 0;
+    let mut b = s + 1;
+    while b > 0 {
+        b -= 1;
+        let j = words::has(clean, jump[b]);
+        let f = words::has(clean, fall[b]);
+        let t = words::has(touched[b], s);
+        let d = words::has(denied[b], s);
+        by_jump = words::put(by_jump, b, j);
+        by_fall = words::put(by_fall, b, f);
+        assigned = words::put(assigned, b, d & ((j | f) | (b == s)));
+        clean = words::put(clean, b, !t & ((b == s) | (j | f)));
+    }
+    Reach {
+        jump: by_jump,
+        fall: by_fall,
+        assigned,
+    }
+}
+
+// The same where s is a test; nothing where it is none.
+fn reach_if(
+    test: bool,
+    jump: &[usize],
+    fall: &[usize],
+    touched: &[u64],
+    denied: &[u64],
+    s: usize,
+) -> Reach
+    requires { ⌜ ((length (now jump) ≡ 64) × ((length (now fall) ≡ 64) × ((length (now touched) ≡ 64) × (length (now denied) ≡ 64)))) × ((s < 64) × (Above (now jump) × Above (now fall))) ⌝ }
+    ensures { λ r. ⌜ (test ≡ true → ReachOf (now (jump .entry)) (now (fall .entry)) (now (touched .entry)) (now (denied .entry)) s r) × (test ≡ false → r ≡ noReach) ⌝ }
+{
+    if test {
+        return reach_of(jump, fall, touched, denied, s);
+    }
+    Reach {
+        jump: 0,
+        fall: 0,
+        assigned: 0,
+    }
+}
+
+// All firsts of each edge.
+fn all_firsts(assigned: &[u64], jump: &[u64], fall: &[u64]) -> [u64; 64]
+    requires { ⌜ (length (now assigned) ≡ 64) × ((length (now jump) ≡ 64) × (length (now fall) ≡ 64)) ⌝ }
+    ensures { λ r. ⌜ Told 0 (EitherAt (now (assigned .entry)) (now (jump .entry)) (now (fall .entry))) 64 64 r ⌝ }
+{
+    let mut r = [0; 64];
+    let mut s = 0;
+    while s < 64 {
+        r[s] = words::either(assigned[s], words::either(jump[s], fall[s]));
+        s += 1;
+    }
+    r
+}
+
+// For each block, those whose lowest first it is.
+fn lowest_firsts(firsts: &[u64]) -> [u64; 64]
+    requires { ⌜ length (now firsts) ≡ 64 ⌝ }
+    ensures { λ r. ⌜ LowestFirsts (now (firsts .entry)) r ⌝ }
+{
+    let mut r = [0; 64];
+    let mut s = 0;
+    while s < 64 {
+        let all = firsts[s];
+        let f = words::lowest(all);
+        r[f] = words::put(r[f], s, all != 0);
+        s += 1;
+    }
+    r
+}
+
+// For each b, those that have a first below b.
+fn listed_rows(firsts: &[u64]) -> [u64; 64]
+    requires { ⌜ length (now firsts) ≡ 64 ⌝ }
+    ensures { λ r. ⌜ Told 0 (ListedAt (now (firsts .entry))) 64 64 r ⌝ }
+{
+    let lowest = lowest_firsts(firsts);
+    let mut r = [0; 64];
+    let mut all = 0;
+    let mut b = 0;
+    while b < 64 {
+        r[b] = all;
+        all = words::either(all, lowest[b]);
+        b += 1;
+    }
+    r
+}
+
+// The firsts of the edges by one way, from the edges that each block's effects deny and those that each edge opposes, by jump and by fall.
+fn firsts_of(
+    tests: u64,
+    jump: &[usize],
+    fall: &[usize],
+    touched: &[u64],
+    denied: &[u64],
+    jumping: &[u64],
+    falling: &[u64],
+) -> Firsts
+    requires { ⌜ ((length (now jump) ≡ 64) × ((length (now fall) ≡ 64) × (length (now touched) ≡ 64))) × (((length (now denied) ≡ 64) × ((length (now jumping) ≡ 64) × (length (now falling) ≡ 64))) × (Above (now jump) × Above (now fall))) ⌝ }
+    ensures { λ r. ⌜ FirstsOf tests (now (jump .entry)) (now (fall .entry)) (now (touched .entry)) (now (denied .entry)) (now (jumping .entry)) (now (falling .entry)) r ⌝ }
+{
+    let mut assigned = [0; 64];
+    let mut jumps = [0; 64];
+    let mut falls = [0; 64];
+    let mut s = 0;
+    while s < 64 {
+        let r = reach_if(words::has(tests, s), jump, fall, touched, denied, s);
+        assigned[s] = r.assigned;
+        jumps[s] = words::both(jumping[s], r.jump);
+        falls[s] = words::both(falling[s], r.fall);
+        s += 1;
+    }
+    Firsts {
+        assigned,
+        jump: jumps,
+        fall: falls,
+    }
+}
+
+fn firsts_by(
+    tests: u64,
+    to: local_sets::Targets,
+    touched: [u64; 64],
+    denied: [u64; 64],
+    opposed: local_sets::Edges,
+) -> Firsts
+    requires { ⌜ ((length (to .jump) ≡ 64) × ((length (to .fall) ≡ 64) × (length touched ≡ 64))) × (((length denied ≡ 64) × ((length (opposed .jump) ≡ 64) × (length (opposed .fall) ≡ 64))) × (Above (to .jump) × Above (to .fall))) ⌝ }
+    ensures { λ r. ⌜ FirstsOf tests (to .jump) (to .fall) touched denied (opposed .jump) (opposed .fall) r ⌝ }
+{
+    let jump = to.jump;
+    let fall = to.fall;
+    let jumping = opposed.jump;
+    let falling = opposed.fall;
+    firsts_of(tests, &jump, &fall, &touched, &denied, &jumping, &falling)
+}
+
+// All that is found of a body: the sets, and for the conflict list each block's variable and the firsts of its edges.
+pub struct Found {
+    pub sets: Sets,
+    pub variable: [u8; 64],
+    pub jumped: Firsts,
+    pub fallen: Firsts,
+}
+
+fn listed_of(jumped: Firsts, fallen: Firsts) -> local_sets::Edges
+    ensures { λ r. ⌜ ListedOf jumped fallen r ⌝ }
+{
+    let a = jumped.assigned;
+    let j = jumped.jump;
+    let f = jumped.fall;
+    let by_jump = all_firsts(&a, &j, &f);
+    let jump = listed_rows(&by_jump);
+    let c = fallen.assigned;
+    let k = fallen.jump;
+    let g = fallen.fall;
+    let by_fall = all_firsts(&c, &k, &g);
+    let fall = listed_rows(&by_fall);
+    local_sets::Edges { jump, fall }
+}
+
+// All that is found of a body: the crate listing reads the conflict list off it.
+pub fn find(body: form::Body) -> Found
+    requires { ⌜ Sound body ⌝ }
+    ensures { λ r. ⌜ FoundOf body r ⌝ }
+{
+    let l = local_sets::local_of(body);
+    let tests = l.tests;
+    let targets = l.targets;
+    let touched = l.touched;
+    let denied = l.denied;
+    let jumping = l.jumping;
+    let falling = l.falling;
+    let deny_jump = denied.jump;
+    let deny_fall = denied.fall;
+    let jumped = firsts_by(tests, targets, touched, deny_jump, jumping);
+    let fallen = firsts_by(tests, targets, touched, deny_fall, falling);
+    let listed = listed_of(jumped, fallen);
+    let sets = Sets {
+        targets,
+        touched,
+        denied,
+        jumping,
+        falling,
+        listed,
+    };
+    let variable = l.variable;
+    Found {
+        sets,
+        variable,
+        jumped,
+        fallen,
+    }
+}
+
+// The sets that the walks need of a body.
+pub fn sets_of(body: form::Body) -> Sets
+    requires { ⌜ Sound body ⌝ }
+    ensures { λ r. ⌜ r ≡ setsOf body ⌝ }
+{
+    let f = find(body);
+    f.sets
+}

@@ -1,0 +1,45 @@
+-- `routes::route::byte_of` meets its contract.
+use mathlib.Core.Path.{_≡_, sym, _∙_}
+use mathlib.Core.Bool.{false}
+use Prim.Native.Nat.{suc}
+use native.Mathlib.Numerals.{add-one}
+use native.Mathlib.Omega.{arith}
+use borrow.Author.Tests.{eq-eqb, ne-eqb}
+use lib.Dec.{eqb}
+use borrow.Author.Needs.{needs}
+use Rattle.plan.proofs.route.byte_of.Statement.{statement}
+use Rattle.plan.proofs.route.byte_of.Tie as tie
+
+add-if1 : tie.Need-add-if1
+add-if1 c = search needs
+
+returns : tie.Need-returns
+returns c = rw (eq-eqb (suc (c .before .args .b)) (c .before .args .count) (omega arith))
+
+has-requires : tie.Need-has-requires
+has-requires c κs = search needs
+
+returns-2 : tie.Need-returns-2
+returns-2 c =
+    let start = c .before .before .before in
+    let inner : eqb (suc (start .args .b)) (start .args .count) ≡ false = ne-eqb (suc (start .args .b)) (start .args .count) (λ e. c .before .before .if1 .left (add-one (start .args .b) ∙ e)) in
+    rw (inner, sym (c .before .has .ensures) ∙ c .if2 .taken)
+
+has-requires-2 : tie.Need-has-requires-2
+has-requires-2 c κs = search needs
+
+returns-3 : tie.Need-returns-3
+returns-3 c =
+    let start = c .before .before .before .before .before in
+    let inner : eqb (suc (start .args .b)) (start .args .count) ≡ false = ne-eqb (suc (start .args .b)) (start .args .count) (λ e. c .before .before .before .before .if1 .left (add-one (start .args .b) ∙ e)) in
+    rw (inner, sym (c .before .before .before .has .ensures) ∙ c .before .before .if2 .left, sym (c .before .has2 .ensures) ∙ c .if3 .taken)
+
+returns-4 : tie.Need-returns-4
+returns-4 c =
+    let start = c .before .before .before .before .before in
+    let inner : eqb (suc (start .args .b)) (start .args .count) ≡ false = ne-eqb (suc (start .args .b)) (start .args .count) (λ e. c .before .before .before .before .if1 .left (add-one (start .args .b) ∙ e)) in
+    rw (inner, sym (c .before .before .before .has .ensures) ∙ c .before .before .if2 .left, sym (c .before .has2 .ensures) ∙ c .if3 .left)
+
+pub byte-of-spec : {M : Type 1} → statement M
+byte-of-spec =
+    tie.close (tie.spec add-if1 returns has-requires returns-2 has-requires-2 returns-3 returns-4)

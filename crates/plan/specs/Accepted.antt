@@ -1,0 +1,136 @@
+-- What an accepted form's body owes the walks, and that what a call owes leaves one outcome. Rests on Owed, Plan and roundtrip's Sound.
+use mathlib.Core.Path.{_≡_, refl, sym, ap, subst, _∙_}
+use mathlib.Core.Bool.{Bool, true, false, _||_}
+use mathlib.Core.List.{List, [], _∷_}
+use Prim.Native.Nat.{ℕ, _+_, _*_, _<_, _≤_}
+use native.Mathlib.Nat.{le-trans, le-of-lt, lt-of-le-of-lt, mul-le-mul-left, mul-le-mul-right}
+use native.Mathlib.Omega.{arith}
+use lib.Dec.{eqb, lit<}
+use mir.Syntax.{w64}
+use mir.Val.{Fits}
+use lib.ListN.{length}
+use borrow.Author.Tests.{eqb-false}
+use Rattle.form.specs.declared.Body.{Body}
+use Rattle.form.specs.declared.Reading.{Reading}
+use Rattle.form.specs.declared.Verdict.{Verdict}
+use Rattle.form.specs.declared.Verdict.the-variants.{Accepted, Refused}
+use Rattle.form.specs.Form.{when, oneIf, isBlock, isEffect, recordsFrom, recordFault, endFault, judged, judgeEnds, judgeRecords, judge, bodyOf, zeroBody}
+use Rattle.form.specs.Answer.{accepted, reading}
+use Rattle.form.specs.Conflict.{block, Sound}
+use Rattle.form.specs.declared.Counter.{Counter}
+use Rattle.counter.specs.declared.Counted.{Counted}
+use Rattle.counter.specs.declared.Counted.the-variants.{Iterations, Refused as NoCount}
+use Rattle.counter.specs.Answer.{Values, said, Owed as Counter·Owed}
+use Rattle.counter.specs.Answer.Owed.{no-relation, no-count as without, counted as with-count}
+use Rattle.counter.specs.Uniqueness.{at-most}
+use Rattle.lower_laws.specs.Loops.{count-once}
+use Rattle.roundtrip.specs.Acceptance.{refused}
+use Rattle.roundtrip.specs.Sound.{well-formed}
+use Rattle.roundtrip.specs.Read.{read-accepted, read-body, read-sound}
+use Rattle.theory.specs.Plan.{Planned}
+use Rattle.theory.specs.Plan.{PlanOf}
+use Rattle.plan.specs.Owed.{Owed}
+use Rattle.plan.specs.Owed.Owed.{no-form, no-count, counted}
+
+-- ---- the body
+
+pub cheap : (s : List ℕ) → judge s ≡ Accepted → (b : ℕ) → block (bodyOf s) b .cost ≤ 1000000
+unfolding block
+cheap s a b = well-formed s a .blocks b .cost
+
+-- ---- no refusal has the number 0
+
+abbrev Numbered : Verdict → Type 0
+Numbered v = (number place : ℕ) → v ≡ Refused number place → number ≡ 0 → ⊥
+
+judged-numbered : (fault at : ℕ) (rest : Verdict) → Numbered rest → Numbered (judged fault at rest)
+judged-numbered fault at rest h number place = by (eqb fault 0) refl
+  where
+    by : (c : Bool) → eqb fault 0 ≡ c → when c rest (Refused fault at) ≡ Refused number place → number ≡ 0 → ⊥
+    by true q e z = h number place e z
+    by false q e z = let d = eqb-false fault 0 q in d (cc)
+
+accepted-numbered : Numbered Accepted
+accepted-numbered number place e z = refused (sym e)
+
+ends-numbered : (s : List ℕ) (n : ℕ) (l : List ℕ) (k : ℕ) → Numbered (judgeEnds s n l k)
+unfolding judgeEnds
+ends-numbered s n [] k = accepted-numbered
+ends-numbered s n (at ∷ rest) k = judged-numbered (endFault s at n k) at (judgeEnds s n rest (k + oneIf (isBlock s at))) (ends-numbered s n rest (k + oneIf (isBlock s at)))
+
+records-numbered : (s l : List ℕ) (b e : ℕ) → Numbered (judgeRecords s l b e)
+unfolding judgeRecords
+records-numbered s [] b e =
+    judged-numbered (when (eqb (length s) 0 || eqb b 0) 17 0) (length s) (judgeEnds s b (recordsFrom s 0) 0) (ends-numbered s b (recordsFrom s 0) 0)
+records-numbered s (at ∷ rest) b e =
+    judged-numbered (recordFault s at b e) at (judgeRecords s rest (b + oneIf (isBlock s at)) (e + oneIf (isEffect s at))) (records-numbered s rest (b + oneIf (isBlock s at)) (e + oneIf (isEffect s at)))
+
+pub judge-numbered : (s : List ℕ) → Numbered (judge s)
+unfolding judge
+judge-numbered s = records-numbered s (recordsFrom s 0) 0 0
+
+-- ---- one outcome
+
+module _ {A : Type 0} (s : List ℕ) (refused-by : ℕ → ℕ → A) (with : ℕ → A) where
+  pub owed-once : (x y : A) → Owed s refused-by with x → Owed s refused-by with y → x ≡ y
+  owed-once x y (no-form n p j e) (no-form m q k f) = e ∙ cc (j, k) ∙ sym f
+  owed-once x y (no-form n p j e) (no-count k none f) = absurd (refused (sym j ∙ k))
+  owed-once x y (no-form n p j e) (counted k m c f) = absurd (refused (sym j ∙ k))
+  owed-once x y (no-count j none e) (no-form m q k f) = absurd (refused (sym k ∙ j))
+  owed-once x y (no-count j none e) (no-count k never f) = e ∙ sym f
+  owed-once x y (no-count j none e) (counted k m c f) = absurd (none m c)
+  owed-once x y (counted j n c e) (no-form m q k f) = absurd (refused (sym k ∙ j))
+  owed-once x y (counted j n c e) (no-count k none f) = absurd (none n c)
+  owed-once x y (counted j n c e) (counted k m d f) =
+      e ∙ ap with (count-once 1 (bodyOf s .counter .initial) (bodyOf s .counter .step) (bodyOf s .counter .relation) (bodyOf s .counter .limit) n m c d) ∙ sym f
+
+-- ---- from the counter's answer
+
+abbrev pub CounterOwed : Counter → Counted → Type 0
+CounterOwed counter answer = Counter·Owed (counter .initial) (counter .step) (counter .relation) (counter .limit) (said answer)
+
+-- 0 where there is none
+abbrev pub iterationsOf : Counted → ℕ
+iterationsOf answer = said answer .iterations
+
+module _ {A : Type 0} (s : List ℕ) (refused-by : ℕ → ℕ → A) (with : ℕ → A) (a : judge s ≡ Accepted) where
+  known : 5 < bodyOf s .counter .relation → ⊥
+  known h = omega (arith, well-formed s a .relation)
+
+  pub owed-refused : (number place : ℕ) → CounterOwed (bodyOf s .counter) (NoCount number place) → Owed s refused-by with (refused-by number place)
+  owed-refused number place (no-relation h e) = absurd (known h)
+  owed-refused number place (without l never e) = no-count a never (λ i. refused-by (e i .number) (e i .place))
+  owed-refused number place (with-count l k c e) = absurd (omega (arith, c .enough, ap (λ (v : Values). v .iterations) e))
+
+  pub owed-counted : (k : ℕ) → CounterOwed (bodyOf s .counter) (Iterations k) → Owed s refused-by with (with k)
+  owed-counted k (no-relation h e) = absurd (known h)
+  owed-counted k (without l never e) = absurd (omega (arith, ap (λ (v : Values). v .number) e))
+  owed-counted k (with-count l j c e) = counted a j c (ap with (ap (λ (v : Values). v .iterations) e))
+
+-- ---- what is read
+
+module _ (s : List ℕ) (r : Reading) (e : r ≡ reading s) where
+  module _ (v : r .verdict ≡ Accepted) where
+    pub plan-of : {plan : List ℕ} → Planned (r .body) plan → PlanOf plan (r .body .count)
+    plan-of p =
+        record {
+          body = r .body;
+          planned = p;
+          sound = read-sound s r e v;
+          cheap = subst (λ (b : Body). (k : ℕ) → block b k .cost ≤ 1000000) (sym (read-body s r e v)) (cheap s (read-accepted s r e v));
+          size = refl;
+        }
+
+    pub read-counted : (x : Counted) → CounterOwed (r .body .counter) x → CounterOwed (bodyOf s .counter) x
+    read-counted x o = subst (λ (b : Body). CounterOwed (b .counter) x) (read-body s r e v) o
+
+    pub few-iterations : (x : Counted) → CounterOwed (r .body .counter) x → iterationsOf x < 4294967296
+    few-iterations x o =
+        let most = at-most (bodyOf s .counter .initial) (bodyOf s .counter .step) (bodyOf s .counter .relation) (bodyOf s .counter .limit) (well-formed s (read-accepted s r e v) .initial) (said x) (read-counted x o) in
+        omega arith
+
+-- ---- how large the answer is
+
+-- the bound fits a word
+pub product : (count weight : ℕ) → count < 4294967296 → weight ≤ 64000000 → Fits w64 (count * weight)
+product count weight h l = record { fits = lt-of-le-of-lt (le-trans (mul-le-mul-right weight (le-of-lt h)) (mul-le-mul-left 4294967296 l)) (lit< tt) }

@@ -1,0 +1,239 @@
+-- A list whose rows are those of a sound body's sets is its plan. Rests on Plan, and on conflict's Sets, whose words the rows are.
+use mathlib.Core.Bool.{Bool, true, false, cond, _&&_}
+use mathlib.Core.List.{List, [], _∷_, _++_}
+use mathlib.Core.Logic.{inl, inr, ⊎-elim}
+use mathlib.Core.Path.{_≡_, refl, ap, sym, subst, _∙_}
+use Prim.Native.Nat.{ℕ, zero, suc, _+_, _*_, _≤_, _<_}
+use native.Mathlib.Omega.{arith}
+use borrow.Author.Tests.{lt-ltb}
+use lib.Dec.{ltb, eqb}
+use lib.ListN.{length, getD, take, drop, length-append, List·getD-append}
+use lib.Seq.{getD-take, length-take-le, paste, getD-append-add}
+use Rattle.laws.specs.Terms.{Mem, bit, setOf}
+use Rattle.laws.specs.Tests.{split, clash, and-out}
+use Rattle.laws.specs.Sets.{bit-setOf, bit-setOf-beyond, below-or-not}
+use Rattle.form.specs.declared.Block.{Block}
+use Rattle.form.specs.declared.Body.{Body}
+use Rattle.form.specs.Conflict.{Edge, Pair, block, exitsBy, exits, isTest, condition, touches, opposes, denies, listed, conflicts, same, secondOf, Holds, Sound, noBlock}
+use Rattle.lower_laws.specs.Blocks.{beyond}
+use Rattle.lower_laws.specs.Joined.{past-count, no-test, denies-test, opposes-test, listed-none}
+use Rattle.form.specs.Form.{when}
+use Rattle.path_sets.specs.declared.Sets.{Sets}
+use Rattle.local_sets.specs.Local.{wayTo, localOf}
+use Rattle.path_sets.specs.Sets.{setsOf}
+use Rattle.words.specs.Tabled.{tabled, rows}
+use Rattle.words.specs.Filled.{tabled-at}
+use Rattle.theory.specs.Plan.{wordAt, exitBy, Planned}
+
+-- row b of a body's plan
+abbrev pub rowAt : Body → ℕ → List ℕ
+rowAt body b =
+    wayTo 1 (exits body b)
+    ∷ wayTo 2 (exits body b)
+    ∷ block body b .cost
+    ∷ setOf 64 (λ k. isTest body k && touches body b (block body k .variable))
+    ∷ setOf 64 (λ k. denies body b (k, 1))
+    ∷ setOf 64 (λ k. denies body b (k, 2))
+    ∷ setOf 64 (λ k. opposes body (b, 1) (k, 1))
+    ∷ setOf 64 (λ k. opposes body (b, 1) (k, 2))
+    ∷ setOf 64 (λ k. opposes body (b, 2) (k, 1))
+    ∷ setOf 64 (λ k. opposes body (b, 2) (k, 2))
+    ∷ setOf 64 (λ k. listed (conflicts body) b (k, 1))
+    ∷ setOf 64 (λ k. listed (conflicts body) b (k, 2))
+    ∷ cond (isTest body b) 1 0
+    ∷ 0 ∷ 0 ∷ 0 ∷ []
+
+-- the same from a body's sets and the block itself, with the three words that nothing uses
+abbrev pub rowWith : Sets → Block → ℕ → (test : ℕ) → List ℕ
+rowWith sets k b test =
+    getD (sets .targets .jump) b 0
+    ∷ getD (sets .targets .fall) b 0
+    ∷ k .cost
+    ∷ getD (sets .touched) b 0
+    ∷ getD (sets .denied .jump) b 0
+    ∷ getD (sets .denied .fall) b 0
+    ∷ getD (sets .jumping .jump) b 0
+    ∷ getD (sets .jumping .fall) b 0
+    ∷ getD (sets .falling .jump) b 0
+    ∷ getD (sets .falling .fall) b 0
+    ∷ getD (sets .listed .jump) b 0
+    ∷ getD (sets .listed .fall) b 0
+    ∷ test
+    ∷ 0 ∷ 0 ∷ 0 ∷ []
+
+abbrev pub rowFrom : Sets → Block → ℕ → List ℕ
+rowFrom sets k b = rowWith sets k b (when (eqb (k .ending) 3) 1 0)
+
+-- ---- rows in the plan
+
+-- the words of the rows below b stand in the plan
+abbrev pub Rows : (ℕ → List ℕ) → ℕ → List ℕ → Type 0
+Rows row b plan = (c w : ℕ) → c < b → w < 16 → wordAt plan c w ≡ getD (row c) w 0
+
+paste-before : (d s : List ℕ) (at n i : ℕ) → i < at → at ≤ length d → getD (paste d at s n) i 0 ≡ getD d i 0
+paste-before d s at n i h l =
+    let here : i < length (take at d) = rw (length-take-le at d l) h in
+    List·getD-append (take at d ++ take n s) (drop (at + n) d) 0 i (simp length-append (omega arith))
+    ∙ (List·getD-append (take at d) (take n s) 0 i here ∙ getD-take at d i 0 h)
+
+paste-in : (d s : List ℕ) (at n i : ℕ) → i < n → n ≤ length s → at ≤ length d → getD (paste d at s n) (at + i) 0 ≡ getD s i 0
+paste-in d s at n i h l m =
+    let size = length-take-le at d m in
+    let some = length-take-le n s l in
+    List·getD-append (take at d ++ take n s) (drop (at + n) d) 0 (at + i) (simp length-append (omega (arith, size, some)))
+    ∙ (subst (λ (k : ℕ). getD (take at d ++ take n s) (k + i) 0 ≡ getD (take n s) i 0) size (getD-append-add (take at d) (take n s) i 0)
+    ∙ getD-take n s i 0 h)
+
+pub rows-more :
+    (row : ℕ → List ℕ) (b : ℕ) (plan words : List ℕ) → length words ≡ 16 → 16 * b + 16 ≤ length plan → words ≡ row b → Rows row b plan
+    → Rows row (b + 1) (paste plan (16 * b) words 16)
+rows-more row b plan words size room e read c w h l = ⊎-elim below here (below-or-not c b)
+  where
+    below : c < b → wordAt (paste plan (16 * b) words 16) c w ≡ getD (row c) w 0
+    below i = paste-before plan words (16 * b) 16 (16 * c + w) (omega arith) (omega arith) ∙ read c w i l
+
+    here : b ≤ c → wordAt (paste plan (16 * b) words 16) c w ≡ getD (row c) w 0
+    here i =
+        let same : c ≡ b = omega arith in
+        rw same (paste-in plan words (16 * b) 16 w l (omega arith) (omega arith) ∙ ap (λ (x : List ℕ). getD x w 0) e)
+
+-- ---- the rows of a body's sets
+
+module _ (body : Body) (b : ℕ) (h : b < 64) where
+  at : (f : ℕ → ℕ) → getD (tabled 64 f) b 0 ≡ f b
+  at f = tabled-at f 64 b 0 h
+
+  on : (f : ℕ → ℕ → Bool) → getD (rows f) b 0 ≡ setOf 64 (f b)
+  unfolding rows
+  on f = at (λ c. setOf 64 (f c))
+
+  test-is : (k : Block) → k ≡ block body b → _≡_ {A = ℕ} (when (eqb (k .ending) 3) 1 0) (cond (isTest body b) 1 0)
+  unfolding isTest
+  test-is k e = ap {B = ℕ} (λ (x : Block). when (eqb (x .ending) 3) 1 0) e ∙ alike (eqb (block body b .ending) 3)
+    where
+      alike : (t : Bool) → _≡_ {A = ℕ} (when t 1 0) (cond t 1 0)
+      alike true = refl
+      alike false = refl
+
+  pub row-same : (k : Block) → k ≡ block body b → rowFrom (setsOf body) k b ≡ rowAt body b
+  unfolding setsOf localOf
+  row-same k e =
+      λ i.
+      at (λ c. wayTo 1 (exits body c)) i
+      ∷ at (λ c. wayTo 2 (exits body c)) i
+      ∷ e i .cost
+      ∷ on (λ c j. isTest body j && touches body c (block body j .variable)) i
+      ∷ on (λ c j. denies body c (j, 1)) i
+      ∷ on (λ c j. denies body c (j, 2)) i
+      ∷ on (λ c j. opposes body (c, 1) (j, 1)) i
+      ∷ on (λ c j. opposes body (c, 1) (j, 2)) i
+      ∷ on (λ c j. opposes body (c, 2) (j, 1)) i
+      ∷ on (λ c j. opposes body (c, 2) (j, 2)) i
+      ∷ on (λ c j. listed (conflicts body) c (j, 1)) i
+      ∷ on (λ c j. listed (conflicts body) c (j, 2)) i
+      ∷ test-is k e i
+      ∷ 0 ∷ 0 ∷ 0 ∷ []
+
+-- ---- the ways
+
+-- what the two targets stand for are the exits
+exits-back :
+    (ending jump fall : ℕ) → ((o : ℕ × ℕ) → Mem o (exitsBy ending jump fall) → o .1 < 64)
+    → exitsBy ending jump fall ≡ exitBy 1 (wayTo 1 (exitsBy ending jump fall)) ++ exitBy 2 (wayTo 2 (exitsBy ending jump fall))
+exits-back zero jump fall h = refl
+exits-back (suc zero) jump fall h = rw (lt-ltb jump 64 (h (1, jump) (inl refl)))
+exits-back (suc (suc zero)) jump fall h = rw (lt-ltb jump 64 (h (1, jump) (inl refl)), lt-ltb fall 64 (h (2, fall) (inr (inl refl))))
+exits-back (suc (suc (suc zero))) jump fall h =
+    rw (lt-ltb jump 64 (h (1, jump) (inl refl)), lt-ltb fall 64 (h (2, fall) (inr (inl refl))))
+exits-back (suc (suc (suc (suc n)))) jump fall h = refl
+
+-- ---- nothing past the last block
+
+module _ (body : Body) (g : Sound body) where
+  past : (k : ℕ) → body .count ≤ k → isTest body k ≡ false
+  past k h = no-test body k (past-count body k h)
+
+  denies-past : (b k w : ℕ) → body .count ≤ k → denies body b (k, w) ≡ false
+  denies-past b k w h = denies-test body b (k, w) (past k h)
+
+  opposes-past : (x : Edge) (k w : ℕ) → body .count ≤ k → opposes body x (k, w) ≡ false
+  opposes-past x k w h = opposes-test body x (k, w) (past k h)
+
+  listed-past : (b k w : ℕ) → body .count ≤ k → listed (conflicts body) b (k, w) ≡ false
+  listed-past b k w h = listed-none body (g .few) b (k, w) (past k h)
+
+  touched-past : (b k : ℕ) → body .count ≤ k → (isTest body k && touches body b (block body k .variable)) ≡ false
+  touched-past b k h = rw (past k h)
+
+  -- ---- the plan
+
+  module _ (plan : List ℕ) (size : length plan ≡ 1024) (read : (b w : ℕ) → b < body .count → w < 16 → wordAt plan b w ≡ getD (rowAt body b) w 0) where
+    -- a word that is a set of blocks
+    within-word : (b w : ℕ) (f : ℕ → Bool) → b < body .count → w < 16 → getD (rowAt body b) w 0 ≡ setOf 64 f → (k : ℕ) → k < body .count → bit (wordAt plan b w) k ≡ f k
+    within-word b w f h l e k i = ap (λ (x : ℕ). bit x k) (read b w h l ∙ e) ∙ bit-setOf 64 f k (omega (arith, g .few))
+
+    past-word : (b w : ℕ) (f : ℕ → Bool) → b < body .count → w < 16 → getD (rowAt body b) w 0 ≡ setOf 64 f
+        → ((k : ℕ) → body .count ≤ k → f k ≡ false) → (k : ℕ) → body .count ≤ k → bit (wordAt plan b w) k ≡ false
+    past-word b w f h l e none k i =
+        ap (λ (x : ℕ). bit x k) (read b w h l ∙ e) ∙ ⊎-elim (λ m. bit-setOf 64 f k m ∙ none k i) (λ m. bit-setOf-beyond 64 f k m) (below-or-not k 64)
+
+    ways : (b : ℕ) → b < body .count → exits body b ≡ exitBy 1 (wordAt plan b 0) ++ exitBy 2 (wordAt plan b 1)
+    unfolding exits
+    ways b h =
+        rw (read b 0 h (omega arith), read b 1 h (omega arith))
+        (exits-back (block body b .ending) (block body b .jump) (block body b .fall) (λ o m. omega (arith, g .onward .inside b o m, g .few)))
+
+    touched : (b k : ℕ) → b < body .count → k < body .count → bit (wordAt plan b 3) k ≡ isTest body k && touches body b (condition body (k, 1) .variable)
+    unfolding condition
+    touched b k h i = within-word b 3 _ h (omega arith) refl k i
+
+    -- each of the words 3 to 11 is such a set
+    within : (b w k : ℕ) → 2 < w → w < 12 → b < body .count → body .count ≤ k → bit (wordAt plan b w) k ≡ false
+    within b zero k low high h i = let z : ⊥ = omega arith in absurd z
+    within b (suc zero) k low high h i = let z : ⊥ = omega arith in absurd z
+    within b (suc (suc zero)) k low high h i = let z : ⊥ = omega arith in absurd z
+    within b (suc (suc (suc zero))) k low high h i = past-word b 3 _ h (omega arith) refl (touched-past b) k i
+    within b (suc (suc (suc (suc zero)))) k low high h i = past-word b 4 _ h (omega arith) refl (λ j. denies-past b j 1) k i
+    within b (suc (suc (suc (suc (suc zero))))) k low high h i = past-word b 5 _ h (omega arith) refl (λ j. denies-past b j 2) k i
+    within b (suc (suc (suc (suc (suc (suc zero)))))) k low high h i = past-word b 6 _ h (omega arith) refl (λ j. opposes-past (b, 1) j 1) k i
+    within b (suc (suc (suc (suc (suc (suc (suc zero))))))) k low high h i = past-word b 7 _ h (omega arith) refl (λ j. opposes-past (b, 1) j 2) k i
+    within b (suc (suc (suc (suc (suc (suc (suc (suc zero)))))))) k low high h i = past-word b 8 _ h (omega arith) refl (λ j. opposes-past (b, 2) j 1) k i
+    within b (suc (suc (suc (suc (suc (suc (suc (suc (suc zero))))))))) k low high h i = past-word b 9 _ h (omega arith) refl (λ j. opposes-past (b, 2) j 2) k i
+    within b (suc (suc (suc (suc (suc (suc (suc (suc (suc (suc zero)))))))))) k low high h i = past-word b 10 _ h (omega arith) refl (λ j. listed-past b j 1) k i
+    within b (suc (suc (suc (suc (suc (suc (suc (suc (suc (suc (suc zero))))))))))) k low high h i = past-word b 11 _ h (omega arith) refl (λ j. listed-past b j 2) k i
+    within b (suc (suc (suc (suc (suc (suc (suc (suc (suc (suc (suc (suc w)))))))))))) k low high h i = let z : ⊥ = omega arith in absurd z
+
+    pub planned : Planned body plan
+    planned =
+        record {
+          size = size;
+          ways = ways;
+          costs = λ b h. read b 2 h (omega arith);
+          touched = touched;
+          denied-jumps = λ b k h i. within-word b 4 _ h (omega arith) refl k i;
+          denied-falls = λ b k h i. within-word b 5 _ h (omega arith) refl k i;
+          jump-jumps = λ b k h i. within-word b 6 _ h (omega arith) refl k i;
+          jump-falls = λ b k h i. within-word b 7 _ h (omega arith) refl k i;
+          fall-jumps = λ b k h i. within-word b 8 _ h (omega arith) refl k i;
+          fall-falls = λ b k h i. within-word b 9 _ h (omega arith) refl k i;
+          listed-jumps = λ b k h i. within-word b 10 _ h (omega arith) refl k i;
+          listed-falls = λ b k h i. within-word b 11 _ h (omega arith) refl k i;
+          within = within;
+          tests = λ b h. read b 12 h (omega arith);
+        }
+
+block-is : (body : Body) (b : ℕ) → b < body .count → getD (body .blocks) b noBlock ≡ block body b
+unfolding block
+block-is body b h = sym (getD-take (body .count) (body .blocks) b noBlock h)
+
+-- what the loop has at its end is the plan
+pub planned-rows :
+    (body : Body) (g : Sound body) (plan : List ℕ) → length plan ≡ 1024 → (sets : Sets) → sets ≡ setsOf body
+    → Rows (λ c. rowFrom sets (getD (body .blocks) c noBlock) c) 64 plan → Planned body plan
+planned-rows body g plan size sets e r =
+    planned body g plan size
+    (λ b w h l.
+    r b w (omega (arith, g .few)) l
+    ∙ ap (λ (x : List ℕ). getD x w 0)
+    (ap (λ (s : Sets). rowFrom s (getD (body .blocks) b noBlock) b) e
+    ∙ row-same body b (omega (arith, g .few)) (getD (body .blocks) b noBlock) (block-is body b h)))

@@ -1,0 +1,17 @@
+-- `form::over_limit` meets its contract.
+use mathlib.Core.Bool.{_&&_, _||_}
+use lib.Dec.{leb, eqb}
+use borrow.Author.Needs.{needs}
+use Rattle.form.specs.Form.{overLimit}
+use Rattle.reader.proofs.over_limit.Statement.{statement}
+use Rattle.reader.proofs.over_limit.Tie as tie
+
+returns : tie.Need-returns
+unfolding overLimit
+returns c =
+    let kind = c .short-at .ensures .0 in
+    let args = c .before .before .args in
+    λ i. (eqb (kind i) 2 && leb 64 (args .b)) || (eqb (kind i) 3 && leb 256 (args .e))
+
+pub over-limit-spec : {M : Type 1} → statement M
+over-limit-spec = tie.close (tie.spec (λ c. search needs) (λ c κs. search needs) returns)

@@ -1,0 +1,23 @@
+-- `routes::sweep::length_of` meets its contract.
+use mathlib.Core.Path.{sym}
+use native.Mathlib.Omega.{arith}
+use lib.ListN.{List·getD-eq-default}
+use borrow.Author.Needs.{needs}
+use Rattle.sweep.proofs.length_of.Statement.{statement}
+use Rattle.sweep.proofs.length_of.Tie as tie
+
+mul-result : tie.Need-mul-result
+mul-result c = search needs
+
+shared-slice-read-result : tie.Need-shared-slice-read-result
+shared-slice-read-result c = search needs
+
+returns : tie.Need-returns
+returns c = search needs
+
+returns-2 : tie.Need-returns-2
+returns-2 c = sym (List·getD-eq-default (c .before .args .lengths .now) 0 (omega arith))
+
+pub length-of-spec : {M : Type 1} → statement M
+length-of-spec =
+    tie.close (tie.spec mul-result shared-slice-read-result returns returns-2)

@@ -1,0 +1,2 @@
+-- What follows from the promises of both ways.
+pub mod Promise
