@@ -12,6 +12,7 @@ pub mod Table
 pub mod Walk
 -- The two machines of a body (theorem 3).
 pub mod Steps
+pub mod Range
 pub mod Edges
 pub mod Backward
 pub mod Forward

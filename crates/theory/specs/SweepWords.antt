@@ -7,7 +7,7 @@ use mathlib.Core.Bool.{Bool, true, false, not, cond, _&&_}
 use mathlib.Core.List.{List, [], _∷_, map, map-map}
 use mathlib.Core.Option.{Option, none, some}
 use Prim.Native.Nat.{ℕ, suc, _+_, _≤_, _<_, _-_, _*_, _^_}
-use native.Mathlib.Nat.{le-refl, le-trans, one-mul, suc-mul, mul-le-mul-right}
+use native.Mathlib.Nat.{le-refl, le-trans}
 use native.Mathlib.Omega.{arith}
 use borrow.Author.Tests.{eqb-true}
 use lib.Dec.{eqb}
@@ -28,6 +28,7 @@ use Rattle.theory.specs.Edges.{noEdges}
 use Rattle.theory.specs.Backward.{Listing, stepBack, backMachine}
 use Rattle.theory.specs.Passes.{paths-lead}
 use Rattle.theory.specs.Ties.{mark, earlier, left-cons, left-nil, earlier-first, left-lt}
+use Rattle.theory.specs.Range.{upTo, weight-most}
 use Rattle.theory.specs.Answer.{key-order, passed-tails, sweep-row, row-zero}
 use Rattle.lower_laws.specs.ConflictList.{exits-ordered}
 
@@ -212,28 +213,14 @@ module _ (body : Body) (w : Onward body) (list : List Pair) (cost : ℕ → ℕ 
 
 -- ---- how large the entries are
 
--- a path weighs at most the greatest cost for each block from its first on
-pub weight-most : (body : Body) → Onward body → (cost : ℕ → ℕ → ℕ) (most : ℕ) → ((b way : ℕ) → cost b way ≤ most) → (b : ℕ) (p : Path) → b < body .count → Leads body b p (lastBlock body)
-    → weight cost (lastBlock body) p ≤ (body .count - b) * most
-unfolding weight
-weight-most body w cost most h b [] l k = let e : body .count - b ≡ 1 = omega arith in rw (e, one-mul most) (h (lastBlock body) 0)
-weight-most body w cost most h b (x ∷ p) l k =
-    let u = k .0 in
-    let m = k .2 in
-    let step : suc (body .count - u) ≤ body .count - b = omega (arith, w .above b (x .1, u) m, w .inside b (x .1, u) m) in
-    le-trans (sum (cost (x .0) (x .1)) (weight cost (lastBlock body) p) (body .count - u) (h (x .0) (x .1)) (weight-most body w cost most h u p (w .inside b (x .1, u) m) (k .3))) (mul-le-mul-right most step)
-  where
-    sum : (a c n : ℕ) → a ≤ most → c ≤ n * most → a + c ≤ suc n * most
-    sum a c n p q = rw (suc-mul n most) (omega arith)
-
-pub record Fits (body : Body) (most b : ℕ) (e : Key × Words) : Type 0 where
+pub record Fits (body : Body) (most : ℕ → ℕ) (b : ℕ) (e : Key × Words) : Type 0 where
   pub jumps : e .0 .0 < 2 ^ body .count
   pub falls : e .0 .1 < 2 ^ body .count
-  pub weighs : e .1 .0 ≤ (body .count - b) * most
+  pub weighs : e .1 .0 + upTo most b ≤ upTo most (body .count)
   pub jumped : e .1 .1 .0 < 2 ^ body .count
   pub fallen : e .1 .1 .1 < 2 ^ body .count
 
-module _ (body : Body) (w : Onward body) (list : List Pair) (L : Listing body list) (cost : ℕ → ℕ → ℕ) (most : ℕ) (cheap : (b way : ℕ) → cost b way ≤ most) (prefers : ℕ → ℕ → Bool) (ch : Choice prefers) where
+module _ (body : Body) (w : Onward body) (list : List Pair) (L : Listing body list) (cost : ℕ → ℕ → ℕ) (most : ℕ → ℕ) (cheap : (b way : ℕ) → b < body .count → cost b way ≤ most b) (prefers : ℕ → ℕ → Bool) (ch : Choice prefers) where
   path-fits : (b : ℕ) (p : Path) → b < body .count → Leads body b p (lastBlock body) → Fits body most b (onWords body (openEdges body list b p, weighed body cost p))
   unfolding openEdges
   path-fits b p h l = record {

@@ -1,4 +1,4 @@
--- `routes::plan::plan_of` meets its contract. The loop's invariant: the rows of the blocks below b stand in the plan. The measure is the blocks to come.
+-- `plan_of` meets its contract. The loop's invariant: the rows of the blocks below b stand in the plan. The measure is the blocks to come.
 use mathlib.Core.List.{List}
 use mathlib.Core.Path.{_≡_, refl, sym, ap}
 use Prim.Native.Nat.{ℕ, _≤_, _-_}
@@ -36,9 +36,9 @@ put-row-requires c κs = (refl, omega arith)
 loop-again : tie.Need-loop-again Inv-loop μ-loop
 loop-again c =
     let wrote = c .before in
-    let tested = wrote .before .before .before in
-    let below = tested .before .before .before .before .before .before .before .before .before .before .before .before .before .loop-test .taken in
-    let head = tested .before .before .before .before .before .before .before .before .before .before .before .before .before .before in
+    let tested = wrote .before .before .before .before .before .before .before .before .before .before .before .before .before .before in
+    let below = tested .before .before .loop-test .taken in
+    let head = tested .before .before .before in
     let loop = head .loop in
     let made = head .before .before .before .before .before .before .before .before in
     let sets = made .sets-of .result in
@@ -58,4 +58,4 @@ returns c =
     planned-rows (made .before .args .body) (made .before .pre) (head .loop .plan) (head .loop .inv .1 .1) _ (made .sets-of .ensures) (rw (← all) (head .loop .inv .0))
 
 pub plan-of-spec : {M : Type 1} → statement M
-plan-of-spec = tie.close (tie.spec Inv-loop μ-loop sets-of-requires loop-holds (λ c. omega arith) (λ c. omega arith) (λ c. omega arith) (λ c. omega arith) (λ c. omega arith) (λ c. omega arith) (λ c. search needs) (λ c. omega arith) (λ c. omega arith) (λ c. omega arith) (λ c. omega arith) (λ c. omega arith) (λ c. omega arith) (λ c. omega arith) (λ c. omega arith) (λ c. omega arith) (λ c. omega arith) (λ c. omega arith) (λ c. omega arith) (λ c. omega arith) (λ c. omega arith) (λ c. omega arith) (λ c. omega arith) (λ c. omega arith) (λ c. omega arith) (λ _ _. tt) slice-aggregate-put-row slice-aggregate-put-row-2 put-row-requires (λ c. omega arith) (λ c. omega arith) loop-again returns)
+plan-of-spec = tie.close (tie.spec Inv-loop μ-loop sets-of-requires loop-holds (λ c. omega arith) (λ c. omega arith) (λ _ _. tt) (λ c. omega arith) (λ c. omega arith) (λ c. omega arith) (λ c. omega arith) (λ c. omega arith) (λ c. omega arith) (λ c. omega arith) (λ c. omega arith) (λ c. omega arith) (λ c. omega arith) (λ c. omega arith) (λ c. omega arith) (λ c. omega arith) (λ c. omega arith) (λ c. omega arith) (λ c. omega arith) (λ c. omega arith) (λ c. omega arith) (λ c. omega arith) (λ c. omega arith) (λ c. omega arith) (λ c. omega arith) (λ c. search needs) slice-aggregate-put-row slice-aggregate-put-row-2 put-row-requires (λ c. omega arith) (λ c. omega arith) loop-again returns)

@@ -1,0 +1,57 @@
+-- `prepare` meets its contract, case by case of the reader's verdict.
+use Rattle.roundtrip.specs.Read.{read-as, read-sound}
+use Rattle.plan.specs.Prepared.{prepared-refused, prepared-counted}
+use borrow.Author.Needs.{needs}
+use Rattle.plan.proofs.prepare.Statement.{statement}
+use Rattle.plan.proofs.prepare.Tie as tie
+
+read-requires : tie.Need-read-requires
+read-requires c κs = search needs
+
+enum-known-verdict : tie.Need-enum-known-verdict
+enum-known-verdict c = search needs
+
+unprepared-requires : tie.Need-unprepared-requires
+unprepared-requires c κs = search needs
+
+enum-told : tie.Need-enum-told
+enum-told c = search needs
+
+plan-of-requires : tie.Need-plan-of-requires
+plan-of-requires c κs =
+    let read = c .before .before .before .read in
+    read-sound (c .before .before .before .before .before .args .form .now) (read .result) (read .ensures) (c .enum-told .given .1)
+
+count-of-requires : tie.Need-count-of-requires
+count-of-requires c κs = search needs
+
+with-count-requires : tie.Need-with-count-requires
+with-count-requires c κs = search needs
+
+returns : tie.Need-returns
+returns c =
+    let start = c .before .before .before .before .before .before .before in
+    let read = c .before .before .before .before .before .read in
+    prepared-refused (start .args .form .now) _ (read-as (start .args .form .now) (read .result) (read .ensures) _ (c .before .before .verdict .given .1)) (c .unprepared .ensures)
+
+returns-2 : tie.Need-returns-2
+returns-2 c =
+    let planned = c .before .before .before in
+    let start = planned .before .before .before .before .before .before in
+    let read = planned .before .before .before .before .read in
+    prepared-counted (start .args .form .now) (read .result) (read .ensures) (planned .before .enum-told .given .1) _ (planned .plan-of .result) _ (c .before .count-of .ensures) (planned .plan-of .ensures)
+    (c .with-count .ensures)
+
+pub prepare-spec : {M : Type 1} → statement M
+prepare-spec =
+    tie.close
+    (tie.spec
+    read-requires
+    enum-known-verdict
+    unprepared-requires
+    enum-told
+    plan-of-requires
+    count-of-requires
+    with-count-requires
+    returns
+    returns-2)
