@@ -27,9 +27,6 @@ loop-holds c = (λ k w h l. let z : ⊥ = omega arith in absurd z, omega arith)
 slice-aggregate-put-row : tie.Need-slice-aggregate-put-row Inv-loop μ-loop
 slice-aggregate-put-row c = sym (c .before .before .before .before .before .before .before .before .before .before .before .before .before .before .before .loop .inv .1 .1)
 
-slice-aggregate-put-row-2 : tie.Need-slice-aggregate-put-row-2 Inv-loop μ-loop
-slice-aggregate-put-row-2 c = refl
-
 put-row-requires : tie.Need-put-row-requires Inv-loop μ-loop
 put-row-requires c κs = (refl, omega arith)
 
@@ -58,4 +55,4 @@ returns c =
     planned-rows (made .before .args .body) (made .before .pre) (head .loop .plan) (head .loop .inv .1 .1) _ (made .sets-of .ensures) (rw (← all) (head .loop .inv .0))
 
 pub plan-of-spec : {M : Type 1} → statement M
-plan-of-spec = tie.close (tie.spec Inv-loop μ-loop sets-of-requires loop-holds (λ c. omega arith) (λ c. omega arith) (λ _ _. tt) (λ c. omega arith) (λ c. omega arith) (λ c. omega arith) (λ c. omega arith) (λ c. omega arith) (λ c. omega arith) (λ c. omega arith) (λ c. omega arith) (λ c. omega arith) (λ c. omega arith) (λ c. omega arith) (λ c. omega arith) (λ c. omega arith) (λ c. omega arith) (λ c. omega arith) (λ c. omega arith) (λ c. omega arith) (λ c. omega arith) (λ c. omega arith) (λ c. omega arith) (λ c. omega arith) (λ c. omega arith) (λ c. search needs) slice-aggregate-put-row slice-aggregate-put-row-2 put-row-requires (λ c. omega arith) (λ c. omega arith) loop-again returns)
+plan-of-spec = tie.close (tie.spec Inv-loop μ-loop sets-of-requires loop-holds (λ c. omega arith) (λ c. omega arith) (λ _ _. tt) (λ c. omega arith) (λ c. omega arith) (λ c. omega arith) (λ c. omega arith) (λ c. omega arith) (λ c. omega arith) (λ c. omega arith) (λ c. omega arith) (λ c. omega arith) (λ c. omega arith) (λ c. omega arith) (λ c. omega arith) (λ c. omega arith) (λ c. omega arith) (λ c. omega arith) (λ c. omega arith) (λ c. omega arith) (λ c. omega arith) (λ c. omega arith) (λ c. omega arith) (λ c. omega arith) (λ c. omega arith) (λ c. search needs) slice-aggregate-put-row (λ c. refl) put-row-requires (λ c. omega arith) (λ c. omega arith) loop-again returns)
