@@ -1,7 +1,7 @@
--- `report::text::letter` meets its contract, case by case. Assumes nothing.
+-- `letter` meets its contract, case by case. Assumes nothing.
 use borrow.Author.Tests.{ne-eqb}
-use Rattle.report.proofs.text.letter.Statement.{statement}
-use Rattle.report.proofs.text.letter.Tie as tie
+use Rattle.text.proofs.letter.Statement.{statement}
+use Rattle.text.proofs.letter.Tie as tie
 
 returns : tie.Need-returns
 returns c = rw (c .match .keys1)

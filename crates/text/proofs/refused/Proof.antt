@@ -1,9 +1,9 @@
--- `report::text::refused` meets its contract: a word, a number and a line, one behind the other. Assumes nothing.
+-- `refused` meets its contract: a word, a number and a line, one behind the other. Assumes nothing.
 use native.Mathlib.Omega.{arith}
-use Rattle.report.specs.Adding.{then}
+use Rattle.lent.specs.Adding.{then}
 use borrow.Author.Needs.{needs}
-use Rattle.report.proofs.text.refused.Statement.{statement}
-use Rattle.report.proofs.text.refused.Tie as tie
+use Rattle.text.proofs.refused.Statement.{statement}
+use Rattle.text.proofs.refused.Tie as tie
 
 slice-aggregate-put : tie.Need-slice-aggregate-put
 slice-aggregate-put c = search needs
@@ -28,7 +28,7 @@ returns c =
     let third = c .before .before in
     let second = third .before .before .before .before .before in
     let first = second .before .before .before .before in
-    (then (first .put .ensures) (then (second .number .ensures .0) (third .line .ensures .0)), omega (arith, first .put .ensures .end, second .number .ensures .1, third .line .ensures .1))
+    (then (first .put .ensures .1) (then (second .number .ensures .0) (third .line .ensures .0)), omega (arith, first .put .ensures .1 .end, second .number .ensures .1, third .line .ensures .1))
 
 pub refused-spec : {M : Type 1} → statement M
 refused-spec =

@@ -1,12 +1,12 @@
--- `report::text::number` meets its contract: io's digits are those of Report, 20 at most. Assumes nothing.
+-- `number` meets its contract: io's digits are those of Report, 20 at most. Assumes nothing.
 use mathlib.Core.Path.{_≡_, ap, _∙_}
 use native.Mathlib.Omega.{arith}
 use lib.ListN.{length, take}
-use Rattle.report.specs.Report.{decimal}
-use Rattle.report.specs.Digits.{decimal-is, digits-few}
+use Rattle.text.specs.Text.{decimal}
+use Rattle.text.specs.Digits.{decimal-is, digits-few}
 use borrow.Author.Needs.{needs}
-use Rattle.report.proofs.text.number.Statement.{statement}
-use Rattle.report.proofs.text.number.Tie as tie
+use Rattle.text.proofs.number.Statement.{statement}
+use Rattle.text.proofs.number.Tie as tie
 
 decimal-requires : tie.Need-decimal-requires
 decimal-requires c κs = search needs
@@ -30,7 +30,7 @@ same-length c = search needs
 returns : tie.Need-returns
 returns c =
     let called = c .before .before .before .before .before in
-    (rw (same called) at (c .before .before .put .ensures), omega (arith, c .before .before .put .ensures .end, ap length (same called), digits-few 20 (called .before .before .before .args .n)))
+    (rw (same called) at (c .before .before .put .ensures .1), omega (arith, c .before .before .put .ensures .1 .end, ap length (same called), digits-few 20 (called .before .before .before .args .n)))
 
 pub number-spec : {M : Type 1} → statement M
 number-spec =

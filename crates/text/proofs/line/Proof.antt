@@ -1,9 +1,9 @@
--- `report::text::line` meets its contract: a word, a number and a line end, one behind the other. Assumes nothing.
+-- `line` meets its contract: a word, a number and a line end, one behind the other. Assumes nothing.
 use native.Mathlib.Omega.{arith}
-use Rattle.report.specs.Adding.{then}
+use Rattle.lent.specs.Adding.{then}
 use borrow.Author.Needs.{needs}
-use Rattle.report.proofs.text.line.Statement.{statement}
-use Rattle.report.proofs.text.line.Tie as tie
+use Rattle.text.proofs.line.Statement.{statement}
+use Rattle.text.proofs.line.Tie as tie
 
 put-requires : tie.Need-put-requires
 put-requires c κs = search needs
@@ -25,7 +25,7 @@ returns c =
     let third = c .before .before in
     let second = third .before .before .before .before .before in
     let first = second .before .before .before .before in
-    (then (first .put .ensures) (then (second .number .ensures .0) (third .put2 .ensures)), omega (arith, first .put .ensures .end, second .number .ensures .1, third .put2 .ensures .end))
+    (then (first .put .ensures .1) (then (second .number .ensures .0) (third .put2 .ensures .1)), omega (arith, first .put .ensures .1 .end, second .number .ensures .1, third .put2 .ensures .1 .end))
 
 pub line-spec : {M : Type 1} → statement M
 line-spec =

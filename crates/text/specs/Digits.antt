@@ -9,7 +9,7 @@ use borrow.Author.Tests.{ltb-true, ltb-false, lt-ltb}
 use lib.Dec.{ltb, lit≤}
 use lib.ListN.{length, length-append}
 use Rattle.io.specs.Digits.{digits, glyph, Fewest}
-use Rattle.report.specs.Report.{digitsOf, decimal}
+use Rattle.text.specs.Text.{digitsOf, decimal}
 
 glyph-low : (n : ℕ) → glyph (n % 10) ≡ 48 + n % 10
 glyph-low n = let h : n % 10 < 10 = omega arith in rw (lt-ltb (n % 10) 10 h)

@@ -5,8 +5,8 @@ use Prim.Native.Nat.{ℕ, suc, _+_, _<_}
 use native.Mathlib.Numerals.{add-one}
 use lib.ListN.{length, drop, getD}
 use lib.Seq.{drop-cons, drop-length}
-use Rattle.report.specs.Report.{step, stepsFrom}
-use Rattle.report.specs.Adding.{Adds, then, nothing}
+use Rattle.text.specs.Text.{step, stepsFrom}
+use Rattle.lent.specs.Adding.{Adds, then, nothing}
 
 pub record Stepped (before : List ℕ) (at : ℕ) (after : List ℕ) (r : ℕ) (ways : List ℕ) (block : ℕ) : Type 0 where
   pub done : List ℕ

@@ -2,20 +2,8 @@
 ghost use mathlib.Core.Path.{_≡_};
 ghost use Prim.Native.Nat.{_+_, _≤_};
 ghost use lib.ListN.{length};
-ghost use Rattle.report.specs.Adding.{Adds};
-ghost use Rattle.report.specs.Report.{decimal, line as lineText, refusalLine, letterOf, step as stepText, routeLine};
-
-pub(crate) fn put(out: &mut [u8], at: usize, bytes: &[u8]) -> usize
-    requires { ⌜ at + length (now bytes) ≤ length (now out) ⌝ }
-    ensures { λ r. ⌜ Adds (now (out .entry)) at (now (out .exit)) r (now (bytes .entry)) ⌝ }
-{
-    let mut j = 0;
-    while j < bytes.len() {
-        out[at + j] = bytes[j];
-        j += 1;
-    }
-    at + j
-}
+ghost use Rattle.lent.specs.Adding.{Adds};
+ghost use Rattle.text.specs.Text.{decimal, line as lineText, refusalLine, letterOf, step as stepText, routeLine};
 
 // A number in decimal digits.
 fn number(out: &mut [u8], at: usize, n: u64) -> usize
@@ -24,25 +12,25 @@ fn number(out: &mut [u8], at: usize, n: u64) -> usize
 {
     let mut digits = [0u8; 20];
     let k = io::decimal(n, &mut digits);
-    put(out, at, &digits[..k])
+    lent::put(out, at, &digits[..k])
 }
 
 // A word and a number.
-pub(crate) fn line(out: &mut [u8], at: usize, word: &[u8], n: u64) -> usize
+pub fn line(out: &mut [u8], at: usize, word: &[u8], n: u64) -> usize
     requires { ⌜ at + length (now word) + 21 ≤ length (now out) ⌝ }
     ensures { λ r. ⌜ Adds (now (out .entry)) at (now (out .exit)) r (lineText (now (word .entry)) n) × (r ≤ at + length (now (word .entry)) + 21) ⌝ }
 {
-    let a = put(out, at, word);
+    let a = lent::put(out, at, word);
     let b = number(out, a, n);
-    put(out, b, b"\n")
+    lent::put(out, b, b"\n")
 }
 
 // A refusal: its number and place.
-pub(crate) fn refused(out: &mut [u8], n: u64, place: u64) -> usize
+pub fn refused(out: &mut [u8], n: u64, place: u64) -> usize
     requires { ⌜ 60 ≤ length (now out) ⌝ }
     ensures { λ r. ⌜ Adds (now (out .entry)) 0 (now (out .exit)) r (refusalLine n place) × (r ≤ 60) ⌝ }
 {
-    let a = put(out, 0, b"refused ");
+    let a = lent::put(out, 0, b"refused ");
     let b = number(out, a, n);
     line(out, b, b" at ", place)
 }
@@ -65,22 +53,22 @@ fn step(out: &mut [u8], at: usize, block: usize, way: u8) -> usize
     if way == 0 {
         return at;
     }
-    let a = put(out, at, b" ");
+    let a = lent::put(out, at, b" ");
     let b = number(out, a, block as u64);
     let last = [letter(way)];
-    put(out, b, &last)
+    lent::put(out, b, &last)
 }
 
 // The blocks on the route, with their ways.
-pub(crate) fn route(out: &mut [u8], at: usize, bytes: [u8; 64]) -> usize
+pub fn route(out: &mut [u8], at: usize, bytes: [u8; 64]) -> usize
     requires { ⌜ at + 1414 ≤ length (now out) ⌝ }
     ensures { λ r. ⌜ Adds (now (out .entry)) at (now (out .exit)) r (routeLine bytes) × (r ≤ at + 1414) ⌝ }
 {
-    let mut to = put(out, at, b"route");
+    let mut to = lent::put(out, at, b"route");
     let mut block = 0;
     while block < 64 {
         to = step(out, to, block, bytes[block]);
         block += 1;
     }
-    put(out, to, b"\n")
+    lent::put(out, to, b"\n")
 }

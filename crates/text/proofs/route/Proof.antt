@@ -1,13 +1,13 @@
--- `report::text::route` meets its contract. The loop's invariant: the blocks so far are added, with what is to come that is the whole; the place goes up by 22 at most.
+-- `route` meets its contract. The loop's invariant: the blocks so far are added, with what is to come that is the whole; the place goes up by 22 at most.
 -- The measure is the blocks to come. Assumes nothing.
 use mathlib.Core.Path.{_≡_, refl, _∙_}
 use Prim.Native.Nat.{_+_, _*_, _-_, _≤_}
 use native.Mathlib.Omega.{arith}
 use lib.ListN.{length}
-use Rattle.report.specs.Adding.{then}
-use Rattle.report.specs.Steps.{Stepped, begun, turned, ended}
-use Rattle.report.proofs.text.route.Statement.{statement}
-use Rattle.report.proofs.text.route.Tie as tie
+use Rattle.lent.specs.Adding.{then}
+use Rattle.text.specs.Steps.{Stepped, begun, turned, ended}
+use Rattle.text.proofs.route.Statement.{statement}
+use Rattle.text.proofs.route.Tie as tie
 
 abbrev Inv-loop : tie.InvT-loop
 Inv-loop out₀ at bytes to₀ block₀ t8 out to block =
@@ -24,7 +24,7 @@ ways : (c : tie.At-loop Inv-loop μ-loop) → length (entry c .args .t3) ≡ 64
 ways c = entry c .good .1 .1 .0 .1 .0 .1
 
 room : (c : tie.At-loop Inv-loop μ-loop) → c .loop .to + 1 + 22 * (64 - c .loop .block) ≤ length (c .loop .out)
-room c = omega (arith, c .before .before .before .put .ensures .end, c .before .before .before .put .kept .0, entry c .pre)
+room c = omega (arith, c .before .before .before .put .ensures .1 .end, c .before .before .before .put .kept .0, entry c .pre)
 
 slice-aggregate-put : tie.Need-slice-aggregate-put Inv-loop μ-loop
 slice-aggregate-put c = refl
@@ -70,7 +70,7 @@ returns c =
     let last = c .before .before in
     let head = last .before .before .before .before in
     let first = head .before .before .before in
-    (then (first .put .ensures) (then (ended (head .loop .inv .0) (omega (arith, ways head))) (last .put2 .ensures)), omega (arith, first .put .ensures .end, last .put2 .ensures .end))
+    (then (first .put .ensures .1) (then (ended (head .loop .inv .0) (omega (arith, ways head))) (last .put2 .ensures .1)), omega (arith, first .put .ensures .1 .end, last .put2 .ensures .1 .end))
 
 pub route-spec : {M : Type 1} → statement M
 route-spec =
