@@ -1,0 +1,133 @@
+#!/usr/bin/env bash
+# Holds the documents to the tree. In README.md and docs/: every call, definition, theorem, must-fail edit, file and crate that is named exists. Of
+# docs/PROMISES.md besides: no table cell is too long; every public call has its promise; its trusted files are those that say so of themselves, rest on one
+# another alone and prove nothing. README.md has every crate of crates.txt. The last line is 'N passed, M failed'. Names and how they are told apart:
+#   crate::call, crate::module::call, crate::Type    in crates/CRATE/src
+#   crate.File, crate.File.name                      in crates/CRATE/specs
+#   crate/label                                      crates/CRATE/must-fail/LABEL.edit
+#   a path that begins with a folder of the tree     a file or folder
+#   some_name                                        a word of the code; a must-fail edit is not named without its crate
+#   crate `x`, crates `x`, `y` and `z`               crates of crates.txt
+#   check_docs.sh [FOLDER]    the tree; without it this one
+set -u
+cd "${1:-$(dirname "$0")/..}" || exit 1
+
+most=300 # characters of a table cell
+passed=0
+failed=0
+good() { passed=$((passed + 1)); }
+bad() {
+    failed=$((failed + 1))
+    echo "FAILED: $*"
+}
+# check MESSAGE COMMAND WORDS..
+check() {
+    local message=$1
+    shift
+    if "$@"; then good; else bad "$message"; fi
+}
+
+crates=$(sed 's/#.*//' crates.txt | sed -n 's/^\([a-z_0-9]*\):.*/\1/p')
+is_crate() { grep -qx -- "$1" <<<"$crates"; }
+# Whether a name stands by itself in some of the files: has_name NAME FILE..
+has_name() {
+    local name=$1
+    shift
+    NAME=$name awk 'BEGIN { name = ENVIRON["NAME"]; end = "[][ \t(){},:;.]" }
+        index($0, name) { text = " " $0 " "; while ((at = index(text, name)) > 0) {
+            if (substr(text, at - 1, 1) ~ end && substr(text, at + length(name), 1) ~ end) { found = 1; exit }
+            text = substr(text, at + length(name)) } }
+        END { exit !found }' "$@"
+}
+declares() { grep -qE "\b(fn|struct|enum|const) $2\b" crates/"$1"/src/*.rt; }
+words=$(cat crates/*/src/*.rt include/* compare/*.c compare/src/*.rs compare/src/bin/*.rs compare/src/bin/*/*.rs tools/* | grep -oE '[a-z][a-z0-9]*(_[a-z0-9]+)+' | sort -u)
+labels=$(find crates -path '*/must-fail/*.edit' -printf '%f\n' | sed 's/\.edit$//' | sort -u)
+
+# One name of a document.
+named() {
+    local doc=$1 name=$2 crate file rest
+    case $name in
+    *CRATE* | *FILE* | *LABEL* | *NAME* | target/* | compare/target/*) return ;;
+    crates/* | docs/* | tools/* | examples/* | include/* | compare/* | .ci/*)
+        check "$doc: $name is not there" test -e "${name%% *}"
+        return
+        ;;
+    esac
+    if [[ $name =~ ^[a-z_0-9]+/[a-z_0-9]+$ ]]; then
+        check "$doc: there is no must-fail edit $name" test -f "crates/${name%%/*}/must-fail/${name#*/}.edit"
+    elif [[ $name =~ ^([a-z_0-9]+)::([A-Za-z_0-9]+::)*([A-Za-z_0-9]+)$ ]]; then
+        crate=${BASH_REMATCH[1]} rest=${BASH_REMATCH[3]}
+        case $crate in u8 | u32 | i32 | u64 | i64 | usize | std | io | libc) return ;; esac
+        if ! is_crate "$crate"; then bad "$doc: $name: there is no crate $crate"; else check "$doc: $name is not in crates/$crate/src" declares "$crate" "$rest"; fi
+    elif [[ $name =~ ^([a-z_0-9]+)\.([A-Z][A-Za-z]*)(\.([^ .]+))?$ ]]; then
+        crate=${BASH_REMATCH[1]} file=crates/${BASH_REMATCH[1]}/specs/${BASH_REMATCH[2]}.antt rest=${BASH_REMATCH[4]}
+        if ! is_crate "$crate"; then
+            bad "$doc: $name: there is no crate $crate"
+        elif [ ! -f "$file" ]; then
+            bad "$doc: $name: there is no $file"
+        elif [ -n "$rest" ]; then
+            check "$doc: $name is not in $file" has_name "$rest" "$file"
+        else
+            good
+        fi
+    elif [[ $name =~ ^[A-Z][A-Za-z]*\.[A-Za-z][^\ ]*$ ]] && [[ ! $name =~ \.(md|toml)$ ]]; then
+        bad "$doc: $name is named without its crate"
+    elif [[ $name =~ ^[a-z][a-z0-9]*(_[a-z0-9]+)+$ ]]; then
+        if is_crate "$name" || grep -qx -- "$name" <<<"$words"; then
+            good
+        elif grep -qx -- "$name" <<<"$labels"; then
+            bad "$doc: the must-fail edit $name is named without its crate"
+        else
+            bad "$doc: there is no $name in the tree"
+        fi
+    fi
+}
+
+for doc in README.md docs/*.md; do
+    while IFS= read -r name; do named "$doc" "$name"; done < <(grep -oE '`[^`]+`' "$doc" | tr -d '`' | sort -u)
+    while IFS= read -r name; do
+        check "$doc: there is no crate $name" is_crate "$name"
+    done < <(tr '\n' ' ' <"$doc" | grep -oE '\b[Cc]rates? `[a-z_0-9]+`(, `[a-z_0-9]+`)*( and `[a-z_0-9]+`)?' | grep -oE '`[^`]+`' | tr -d '`' | sort -u)
+done
+
+promises=docs/PROMISES.md
+long=$(awk -v most="$most" '/^\|/ { n = split($0, cell, "|"); for (i = 2; i < n; i++) if (length(cell[i]) > most) { print FNR; next } }' "$promises")
+check "$promises: a table cell of over $most characters, in line" test -z "$long"
+[ -z "$long" ] || echo "$long"
+
+for file in crates/*/src/*.rt; do
+    crate=$(cut -d / -f 2 <<<"$file")
+    if [ -f "crates/$crate/src/main.rt" ]; then continue; fi
+    module=$(basename "$file" .rt)
+    if [ "$module" = lib ]; then module=$crate; else module=$crate::$module; fi
+    while IFS= read -r call; do
+        check "$promises: the public call $module::$call has no promise" grep -qF -- "\`$module::$call\`" "$promises"
+    done < <(sed -nE 's/^pub (extern "C" )?fn ([a-z_0-9]+).*/\2/p' "$file")
+done
+
+trusted=$(tools/trusted.sh <"$promises")
+check "$promises lists no trusted file" test -n "$trusted"
+is_trusted() { grep -qx -- "$1" <<<"$trusted"; }
+for file in $trusted; do
+    if [ ! -f "$file" ]; then
+        bad "$promises: the trusted file $file is not there"
+        continue
+    fi
+    proof=$(grep -nE '^[^-]*\b(refl|omega|subst|cc|simp|rw|search|absurd|axiom)\b' "$file" | grep -v '^[0-9]*: *--' | head -n 1)
+    check "$file is trusted and proves something: $proof" test -z "$proof"
+    while IFS= read -r other; do
+        check "$file is trusted and rests on $other, which is not" is_trusted "$other"
+    done < <(sed -nE 's/^use Rattle·([a-z_0-9]+)(·specs)?\.specs\.([A-Z][A-Za-z]*).*/crates\/\1\/specs\/\3.antt/p' "$file" | sort -u)
+done
+while IFS= read -r file; do
+    if awk '/^--/ { print; next } { exit }' "$file" | grep -q 'Trusted:'; then
+        check "$file says that it is trusted and is not in $promises" is_trusted "$file"
+    fi
+done < <(find crates -path '*/specs/*.antt' ! -name Lib.antt | sort)
+
+for crate in $crates; do
+    check "README.md: the table of crates has no crates/$crate" grep -qE "^\|.*\`crates/$crate\`" README.md
+done
+
+echo "$passed passed, $failed failed"
+[ "$failed" -eq 0 ]
