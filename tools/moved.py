@@ -3,7 +3,7 @@
 
     moved.py OLD [NEW]      NEW is HEAD where it is not given
 
-Counted are files and lines under crates/, blank lines left out, of four kinds: definitions (the trusted files, by docs/PROMISES.md of each commit),
+Counted are files and lines under crates/, blank lines and imports (use, ghost use) left out, of four kinds: definitions (the trusted files, by docs/PROMISES.md of each commit),
 contracts (requires and ensures in src/), proofs (all other files of specs/ and proofs/) and code (the rest of src/); and must-fail edits, as files.
 A renamed file is followed, by git's judgement. 'Elsewhere' are lines that are gone from one file and stand in another of the same kind.
 """
@@ -37,7 +37,7 @@ def tree(commit):
 
 def split(path, text, trusted):
     """The lines of a file by kind."""
-    lines = [line for line in text.splitlines() if line.strip()]
+    lines = [line for line in text.splitlines() if line.strip() and not re.match(r"(ghost )?use ", line)]
     if path.endswith(".edit"):
         return {"edits": lines}
     if path.endswith(".antt"):
