@@ -40,7 +40,7 @@ has_name() {
         END { exit !found }' "$@"
 }
 declares() { grep -qE "\b(fn|struct|enum|const) $2\b" crates/"$1"/src/*.rt; }
-words=$(cat crates/*/src/*.rt include/* compare/*.c compare/src/*.rs compare/src/bin/*.rs compare/src/bin/*/*.rs tools/* | grep -oE '[a-z][a-z0-9]*(_[a-z0-9]+)+' | sort -u)
+words=$({ ls compare/src/bin && cat crates/*/src/*.rt include/* compare/*.c compare/src/*.rs; } | grep -oE '[a-z][a-z0-9]*(_[a-z0-9]+)+' | sort -u)
 labels=$(find crates -path '*/must-fail/*.edit' -printf '%f\n' | sed 's/\.edit$//' | sort -u)
 
 # One name of a document.
