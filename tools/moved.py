@@ -3,9 +3,10 @@
 
     moved.py OLD [NEW]      NEW is HEAD where it is not given
 
-Counted are files and lines under crates/, blank lines and imports (use, ghost use) left out, of four kinds: definitions (the trusted files, by docs/PROMISES.md of each commit),
-contracts (requires and ensures in src/), proofs (all other files of specs/ and proofs/) and code (the rest of src/); and must-fail edits, as files.
-A renamed file is followed, by git's judgement. 'Elsewhere' are lines that are gone from one file and stand in another of the same kind.
+Counted are files and lines under crates/, blank lines and imports (use, ghost use) left out, of four kinds: definitions (the trusted files, by
+docs/PROMISES.md of each commit or by their own head), contracts (requires and ensures in src/), proofs (all other files of specs/ and proofs/) and code (the
+rest of src/); and must-fail edits. A renamed file is followed, by git's judgement. 'Elsewhere' are lines that are gone from one file and stand in another of
+the same kind.
 """
 import difflib
 import io
@@ -32,7 +33,13 @@ def tree(commit):
                 files[member.name] = archive.extractfile(member).read().decode()
     promises = git("show", f"{commit}:docs/PROMISES.md")
     listed = subprocess.run(["tools/trusted.sh"], input=promises, check=True, stdout=subprocess.PIPE).stdout
-    return files, set(listed.decode().split())
+    return files, set(listed.decode().split()) | {path for path, text in files.items() if says_trusted(path, text)}
+
+
+def says_trusted(path, text):
+    """Whether the comment at the head of a file of specs/ says that it is trusted."""
+    head = re.match(r"(--.*\n)*", text).group()
+    return "/specs/" in path and not path.endswith("/Lib.antt") and "Trusted:" in head
 
 
 def split(path, text, trusted):
