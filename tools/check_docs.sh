@@ -1,6 +1,6 @@
 #!/usr/bin/env bash
 # Holds the documents to the tree. In README.md and docs/: every call, definition, theorem, must-fail edit, file and crate that is named exists. Of
-# docs/PROMISES.md besides: no table cell is too long; every public call has its promise; its trusted files are those that say so of themselves, rest on one
+# docs/PROMISES.md besides: no table cell is too long; every public call has its promise, and the clause cited stands in the source; its trusted files are those that say so of themselves, rest on one
 # another alone and prove nothing. README.md has every crate of crates.txt. The last line is 'N passed, M failed'. Names and how they are told apart:
 #   crate::call, crate::module::call, crate::Type    in crates/CRATE/src
 #   crate.File, crate.File.name                      in crates/CRATE/specs
@@ -39,6 +39,21 @@ has_name() {
             text = substr(text, at + length(name)) } }
         END { exit !found }' "$@"
 }
+# The file of specs/ that a dotted name leads to, and what is left of the name: spec_file CRATE DOTTED. A file may stand in a folder of specs/, named or not.
+spec_file() {
+    local at=crates/$1/specs left=$2 part inner
+    while [ -n "$left" ]; do
+        part=${left%%.*}
+        if [ "$part" = "$left" ]; then left=; else left=${left#*.}; fi
+        if [ -d "$at/$part" ] && [ -n "$left" ] && [ -e "$at/$part/${left%%.*}.antt" ]; then
+            at=$at/$part
+            continue
+        fi
+        if [ -f "$at/$part.antt" ]; then inner=$at/$part.antt; else inner=$(find "$at" -name "$part.antt" 2>/dev/null | head -n 1); fi
+        echo "$inner $left"
+        return
+    done
+}
 declares() { grep -qE "\b(fn|struct|enum|const) $2\b" crates/"$1"/src/*.rt; }
 words=$({ ls compare/src/bin && cat crates/*/src/*.rt include/* compare/*.c compare/src/*.rs; } | grep -oE '[a-z][a-z0-9]*(_[a-z0-9]+)+' | sort -u)
 labels=$(find crates -path '*/must-fail/*.edit' -printf '%f\n' | sed 's/\.edit$//' | sort -u)
@@ -59,12 +74,13 @@ named() {
         crate=${BASH_REMATCH[1]} rest=${BASH_REMATCH[3]}
         case $crate in u8 | u32 | i32 | u64 | i64 | usize | std | io | libc) return ;; esac
         if ! is_crate "$crate"; then bad "$doc: $name: there is no crate $crate"; else check "$doc: $name is not in crates/$crate/src" declares "$crate" "$rest"; fi
-    elif [[ $name =~ ^([a-z_0-9]+)\.([A-Z][A-Za-z]*)(\.([^ .]+))?$ ]]; then
-        crate=${BASH_REMATCH[1]} file=crates/${BASH_REMATCH[1]}/specs/${BASH_REMATCH[2]}.antt rest=${BASH_REMATCH[4]}
+    elif [[ $name =~ ^([a-z_0-9]+)\.([A-Z][A-Za-z]*(\.[^ .]+)*)$ ]]; then
+        crate=${BASH_REMATCH[1]}
+        read -r file rest < <(spec_file "$crate" "${BASH_REMATCH[2]}")
         if ! is_crate "$crate"; then
             bad "$doc: $name: there is no crate $crate"
         elif [ ! -f "$file" ]; then
-            bad "$doc: $name: there is no $file"
+            bad "$doc: $name: there is no such file in crates/$crate/specs"
         elif [ -n "$rest" ]; then
             check "$doc: $name is not in $file" has_name "$rest" "$file"
         else
@@ -91,9 +107,8 @@ for doc in README.md docs/*.md; do
 done
 
 promises=docs/PROMISES.md
-long=$(awk -v most="$most" '/^\|/ { n = split($0, cell, "|"); for (i = 2; i < n; i++) if (length(cell[i]) > most) { print FNR; next } }' "$promises")
-check "$promises: a table cell of over $most characters, in line" test -z "$long"
-[ -z "$long" ] || echo "$long"
+long=$(awk -v most="$most" '/^\|/ { n = split($0, cell, "|"); for (i = 2; i < n; i++) if (length(cell[i]) > most) { printf " %d", FNR; next } }' "$promises")
+check "$promises: a table cell has over $most characters, line$long" test -z "$long"
 
 for file in crates/*/src/*.rt; do
     crate=$(cut -d / -f 2 <<<"$file")
@@ -105,6 +120,42 @@ for file in crates/*/src/*.rt; do
     done < <(sed -nE 's/^pub (extern "C" )?fn ([a-z_0-9]+).*/\2/p' "$file")
 done
 
+# The contract of a call, in one line: contract CALL.
+contract() {
+    local crate=${1%%::*}
+    cat crates/"$crate"/src/*.rt | awk -v name="${1##*::}" '
+        $0 ~ "fn " name "\\(" { within = 1; text = ""; next }
+        within && /^\{/ { print text; within = 0 }
+        within { sub(/^ */, ""); text = text " " $0 }'
+}
+# A section for a call has its three parts, and what is cited as its clause stands in its contract. A line for each part: the call, the part, the cited text.
+while IFS=$'\t' read -r call part text; do
+    case $part in
+    missing) bad "$promises: the section of $call has no '$text'" ;;
+    *) if [[ $(contract "$call") == *"$text"* ]]; then good; else bad "$promises: the contract of $call has not the clause $text"; fi ;;
+    esac
+done < <(awk '
+    function flush(i) {
+        if (call == "") return
+        for (i = 1; i <= 3; i++) if (!(parts[i] in seen)) print call "\tmissing\t" parts[i]
+        delete seen
+    }
+    BEGIN { split("- Clause:,- One answer:,- Ruled out", parts, ",") }
+    /^#/ { flush(); call = ""; in_clause = 0 }
+    /^### `[a-z_0-9]+::/ { call = $0; sub(/^### `/, "", call); sub(/`.*/, "", call) }
+    call != "" { for (i = 1; i <= 3; i++) if (index($0, parts[i]) == 1) seen[parts[i]] }
+    /^- / { in_clause = /^- Clause:/ }
+    /^$/ { in_clause = 0 }
+    call != "" && in_clause {
+        line = $0
+        while (match(line, /`[^`]*`/)) {
+            piece = substr(line, RSTART + 1, RLENGTH - 2)
+            line = substr(line, RSTART + RLENGTH)
+            if (piece ~ / /) print call "\tclause\t" piece
+        }
+    }
+    END { flush() }' "$promises")
+
 trusted=$(tools/trusted.sh <"$promises")
 check "$promises lists no trusted file" test -n "$trusted"
 is_trusted() { grep -qx -- "$1" <<<"$trusted"; }
@@ -115,9 +166,10 @@ for file in $trusted; do
     fi
     proof=$(grep -nE '^[^-]*\b(refl|omega|subst|cc|simp|rw|search|absurd|axiom)\b' "$file" | grep -v '^[0-9]*: *--' | head -n 1)
     check "$file is trusted and proves something: $proof" test -z "$proof"
-    while IFS= read -r other; do
-        check "$file is trusted and rests on $other, which is not" is_trusted "$other"
-    done < <(sed -nE 's/^use Rattle·([a-z_0-9]+)(·specs)?\.specs\.([A-Z][A-Za-z]*).*/crates\/\1\/specs\/\3.antt/p' "$file" | sort -u)
+    while read -r crate dotted; do
+        read -r other rest < <(spec_file "$crate" "$dotted")
+        check "$file is trusted and rests on ${other:-$crate.$dotted}, which is not" is_trusted "$other"
+    done < <(sed -nE 's/^use Rattle·([a-z_0-9]+)(·specs)?\.specs\.([A-Z][A-Za-z.]*).*/\1 \3/p' "$file" | sed 's/\.$//' | sort -u)
 done
 while IFS= read -r file; do
     if awk '/^--/ { print; next } { exit }' "$file" | grep -q 'Trusted:'; then
