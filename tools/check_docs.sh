@@ -1,7 +1,8 @@
 #!/usr/bin/env bash
 # Holds the documents to the tree. In README.md and docs/: every call, definition, theorem, must-fail edit, file and crate that is named exists. Of
-# docs/PROMISES.md besides: no table cell is too long; every public call has its promise, and the clause cited stands in the source; its trusted files are those that say so of themselves, rest on one
-# another alone and prove nothing. README.md has every crate of crates.txt. The last line is 'N passed, M failed'. Names and how they are told apart:
+# docs/PROMISES.md besides: no table cell is too long; every public call has its promise, and the clause cited stands in the source; its trusted files are those
+# that say so of themselves, rest on one another alone and prove nothing. README.md has every crate of crates.txt. The last line is 'N passed, M failed'.
+# Names and how they are told apart:
 #   crate::call, crate::module::call, crate::Type    in crates/CRATE/src
 #   crate.File, crate.File.name                      in crates/CRATE/specs
 #   crate/label                                      crates/CRATE/must-fail/LABEL.edit
@@ -132,7 +133,10 @@ contract() {
 while IFS=$'\t' read -r call part text; do
     case $part in
     missing) bad "$promises: the section of $call has no '$text'" ;;
-    *) if [[ $(contract "$call") == *"$text"* ]]; then good; else bad "$promises: the contract of $call has not the clause $text"; fi ;;
+    *)
+        whole=$(contract "$call")
+        if [[ $whole == *"⌜ $text ⌝"* || $whole == *"($text)"* ]]; then good; else bad "$promises: the contract of $call has not the clause $text"; fi
+        ;;
     esac
 done < <(awk '
     function flush(i) {
@@ -170,6 +174,26 @@ for file in $trusted; do
         read -r other rest < <(spec_file "$crate" "$dotted")
         check "$file is trusted and rests on ${other:-$crate.$dotted}, which is not" is_trusted "$other"
     done < <(sed -nE 's/^use Rattle·([a-z_0-9]+)(·specs)?\.specs\.([A-Z][A-Za-z.]*).*/\1 \3/p' "$file" | sed 's/\.$//' | sort -u)
+done
+# A public call's contract cites trusted files alone, unless its section says of what it cites that it is 'no trusted file'.
+for file in crates/*/src/*.rt; do
+    crate=$(cut -d / -f 2 <<<"$file")
+    if [ -f "crates/$crate/src/main.rt" ]; then continue; fi
+    while IFS= read -r call; do
+        whole=$(contract "$crate::$call")
+        section=$(awk -v call="::$call\`" '/^#/ { within = index($0, call) > 0 } within' "$promises")
+        while read -r other dotted names; do
+            read -r spec rest < <(spec_file "$other" "$dotted")
+            for name in ${names//,/ }; do
+                if ! grep -qE "(^|[^A-Za-z_-])$name([^A-Za-z_-]|$)" <<<"$whole"; then continue; fi
+                if is_trusted "$spec" || [[ $section == *"no trusted file"* ]]; then
+                    good
+                else
+                    bad "$promises: the contract of $crate::$call cites $name of $spec, which is not trusted"
+                fi
+            done
+        done < <(sed -nE 's/^ghost use Rattle·([a-z_0-9]+)(·specs)?\.specs\.([A-Z][A-Za-z.]*)\.\{(.*)\};/\1 \3 \4/p' "$file")
+    done < <(sed -nE 's/^pub (extern "C" )?fn ([a-z_0-9]+).*/\2/p' "$file")
 done
 while IFS= read -r file; do
     if awk '/^--/ { print; next } { exit }' "$file" | grep -q 'Trusted:'; then
