@@ -8,6 +8,7 @@
 #   crate/label                                      crates/CRATE/must-fail/LABEL.edit
 #   a path that begins with a folder of the tree     a file or folder
 #   some_name                                        a word of the code; a must-fail edit is not named without its crate
+#   someName, SomeName, some-name                    a word of the code or of its specs
 #   crate `x`, crates `x`, `y` and `z`               crates of crates.txt
 #   check_docs.sh [FOLDER]    the tree; without it this one
 set -u
@@ -57,6 +58,7 @@ spec_file() {
 }
 declares() { grep -qE "\b(fn|struct|enum|const) $2\b" crates/"$1"/src/*.rt; }
 words=$({ ls compare/src/bin && cat crates/*/src/*.rt include/* compare/*.c compare/src/*.rs; } | grep -oE '[a-z][a-z0-9]*(_[a-z0-9]+)+' | sort -u)
+identifiers=$({ find crates -name '*.rt' -o -name '*.antt' | xargs cat && cat include/* compare/*.c compare/src/*.rs; } | grep -oE '[A-Za-z][A-Za-z0-9_-]*' | sort -u)
 labels=$(find crates -path '*/must-fail/*.edit' -printf '%f\n' | sed 's/\.edit$//' | sort -u)
 
 # One name of a document.
@@ -97,6 +99,8 @@ named() {
         else
             bad "$doc: there is no $name in the tree"
         fi
+    elif [[ $name =~ ^[A-Za-z][A-Za-z0-9_]*([A-Z]|-[a-z])[A-Za-z0-9_-]*$ || $name =~ ^[A-Z][a-z]{3,}$ ]]; then
+        check "$doc: there is no $name in the tree" grep -qx -- "$name" <<<"$identifiers"
     fi
 }
 
