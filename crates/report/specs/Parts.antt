@@ -13,7 +13,7 @@ use Rattle.form.specs.Form.{when, judge, bodyOf}
 use Rattle.form.specs.Answer.{reading}
 use Rattle.form.specs.Conflict.{conflicts, conflictBytes}
 use Rattle.listing.specs.declared.Listed.{Listed}
-use Rattle.listing.specs.declared.Listed.the-variants.{Bytes, Unlisted}
+use Rattle.listing.specs.declared.Listed.the-variants.{Bytes, Refused as Unlisted}
 use Rattle.listing.specs.Answer.{listing, asJudged}
 use Rattle.listing.specs.Listing.{bytes-length}
 use Rattle.sweep.specs.declared.SweepAnswer.{SweepAnswer}

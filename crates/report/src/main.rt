@@ -21,7 +21,7 @@ fn entries(form: &[u8]) -> u64
     let mut none = [0u8; 1];
     match listing::conflicts(form, &mut none[..0]) {
         Listed::Bytes(count) => (count / 5) as u64,
-        Listed::Unlisted { number: _, place } => (place / 5) as u64,
+        Listed::Refused { number: _, place } => (place / 5) as u64,
     }
 }
 
