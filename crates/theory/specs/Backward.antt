@@ -12,7 +12,7 @@ use Rattle.form.specs.declared.Body.{Body}
 use Rattle.form.specs.Conflict.{Edge, Pair, exits, isTest, condition, opposes, denies, Onward, Clean, same, listed}
 use Rattle.theory.specs.Route.{Path, conflict}
 use Rattle.theory.specs.Row.{Key, bare, openEdges}
-use Rattle.theory.specs.Machine.{Machine}
+use Rattle.theory.specs.Machine.{Machine, onBody, thenStep, readBack}
 use Rattle.lower_laws.specs.Listed.{Way, Real, denies-test, same-refl, same-eq}
 use Rattle.theory.specs.Steps.{Leads, wipes, against, real-inside, real-way, hit, hit-of, hit-out, conflict-nil, conflict-cons, bare-nil, bare-cons, bare-real, bare-clean}
 use Rattle.theory.specs.Edges.{has, edgesOf, anyEdge, noEdges, has-edgesOf, any-edge-in, any-edge-out, edges-same, edges-none}
@@ -34,17 +34,7 @@ abbrev pub stepBack : Body → List Pair → Edge → Key → Option Key
 stepBack body list x s = cond (drops body x s) none (some (opened body list x s))
 
 abbrev pub backMachine : Body → List Pair → (cost : ℕ → ℕ → ℕ) → Machine Key
-backMachine body list cost = record { count = body .count; outs = exits body; step = stepBack body list; cost = cost; start = noEdges }
-
--- a path read from its end
-module _ {K : Type 0} (M : Machine K) where
-  abbrev pub thenStep : Edge → Option K → Option K
-  thenStep x none = none
-  thenStep x (some s) = M .step x s
-
-  unfoldable pub readBack : Path → Option K
-  readBack [] = some (M .start)
-  readBack (x ∷ p) = thenStep x (readBack p)
+backMachine body list cost = onBody body cost (stepBack body list) noEdges
 
 -- ---- what the machine needs of the conflict list
 

@@ -7,10 +7,10 @@ use mathlib.Core.Option.{Option, none, some}
 use Prim.Native.Nat.{ℕ}
 use Rattle.laws.specs.Tests.{both, clash, Or·sort}
 use Rattle.form.specs.declared.Body.{Body}
-use Rattle.form.specs.Conflict.{Edge, exits, opposes, denies, Onward}
+use Rattle.form.specs.Conflict.{Edge, opposes, denies, Onward}
 use Rattle.theory.specs.Route.{Path, conflict}
 use Rattle.theory.specs.Row.{Key}
-use Rattle.theory.specs.Machine.{Machine}
+use Rattle.theory.specs.Machine.{Machine, onBody, goesOn, allowed}
 use Rattle.lower_laws.specs.Listed.{Real}
 use Rattle.theory.specs.Steps.{Leads, wipes, real-inside, real-way, hit, hit-nil, hit-cons, hit-or, hit-of, hit-out, conflict-nil, conflict-cons, bare-real}
 use Rattle.theory.specs.Edges.{has, edgesOf, noEdges, has-edgesOf, has-none}
@@ -29,17 +29,7 @@ abbrev pub stepOn : Body → Edge → Key → Option Key
 stepOn body x s = cond (entered body (x .0) s x) none (some (banned body x s))
 
 abbrev pub onMachine : Body → (cost : ℕ → ℕ → ℕ) → Machine Key
-onMachine body cost = record { count = body .count; outs = exits body; step = stepOn body; cost = cost; start = noEdges }
-
--- every step of the path is allowed, from the state s on
-module _ {S : Type 0} (M : Machine S) where
-  abbrev pub goesOn : Option S → (S → Bool) → Bool
-  goesOn none f = false
-  goesOn (some s) f = f s
-
-  unfoldable pub allowed : Path → S → Bool
-  allowed [] s = true
-  allowed (x ∷ p) s = goesOn (M .step x s) (allowed p)
+onMachine body cost = onBody body cost (stepOn body) noEdges
 
 -- ---- the theorem
 

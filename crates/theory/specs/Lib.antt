@@ -20,11 +20,14 @@ pub mod Listing
 -- The answer (theorem 4), the bound (theorem 5), and both ways on words.
 pub mod Passes
 pub mod Best
+pub mod Ways
 pub mod Answer
 pub mod Bound
 pub mod Ties
-pub mod SweepWords
+pub mod Words
 pub mod WalkWords
+pub mod Pairwise
+pub mod SweepWords
 pub mod Main
 -- What the walks need of a body, as words.
 pub mod Plan

@@ -1,5 +1,6 @@
--- A machine that reads paths from their end: it has a key for the empty path, and a step in front makes a new key or drops the path. For any machine and any
--- costs: the paths that it passes, with key and weight, in order; and the rows built from the last block down by insertion. Rests on Route and the laws.
+-- A machine reads paths: it has a key (or state) to start with, and a step makes a new one or drops the path. Read from the end (`readBack`) a step goes in front; read from the
+-- start (`allowed`) it goes on. For any machine and any costs: the paths that it passes from their end, with key and weight, in order; and the rows built from the last block
+-- down by insertion. Rests on Route and the laws.
 use mathlib.Core.Path.{_≡_, refl, ap, _∙_}
 use mathlib.Core.Logic.{_⊎_, inl, inr}
 use mathlib.Core.Bool.{Bool, true, false, cond}
@@ -13,7 +14,8 @@ use Rattle.laws.specs.Terms.{Mem, Sorted, pairb}
 use Rattle.laws.specs.Orders.{Order, lexb, lexb-order, lexb-cons, pair-order, ltb-order, next-first}
 use Rattle.laws.specs.Lists.{mem-append, sorted-append}
 use Rattle.laws.specs.Rows.{insert, put, ext, Stepped, mem-ext-out}
-use Rattle.form.specs.Conflict.{Edge}
+use Rattle.form.specs.declared.Body.{Body}
+use Rattle.form.specs.Conflict.{Edge, exits}
 use Rattle.theory.specs.Route.{Path}
 
 -- a weight, and a path
@@ -48,7 +50,37 @@ pub record Machine (K : Type 0) : Type 0 where
   pub cost : ℕ → ℕ → ℕ  -- of a block left by a way; the last by way 0
   pub start : K
 
+-- on the graph of a body
+abbrev pub onBody : {K : Type 0} → Body → (cost : ℕ → ℕ → ℕ) → (Edge → K → Option K) → K → Machine K
+onBody body cost step start = record { count = body .count; outs = exits body; step = step; cost = cost; start = start }
+
 module _ {K : Type 0} (M : Machine K) where
+  -- ---- one path
+
+  abbrev pub thenStep : Edge → Option K → Option K
+  thenStep x none = none
+  thenStep x (some s) = M .step x s
+
+  -- a path read from its end
+  unfoldable pub readBack : Path → Option K
+  readBack [] = some (M .start)
+  readBack (x ∷ p) = thenStep x (readBack p)
+
+  abbrev pub goesOn : Option K → (K → Bool) → Bool
+  goesOn none f = false
+  goesOn (some s) f = f s
+
+  -- every step of the path is allowed, from the state s on
+  unfoldable pub allowed : Path → K → Bool
+  allowed [] s = true
+  allowed (x ∷ p) s = goesOn (M .step x s) (allowed p)
+
+  -- ---- all that are passed from their end
+
+  -- the step x in front, at its cost
+  abbrev pub grown : Edge → Val → Val
+  grown x = grow (M .cost (x .0) (x .1)) x
+
   -- the last block's own path
   abbrev pub base : ℕ → List (K × Val)
   base b = cond (eqb (suc b) (M .count)) ((M .start, (M .cost b 0, [])) ∷ []) []
@@ -56,7 +88,7 @@ module _ {K : Type 0} (M : Machine K) where
   -- the paths by each of the ways os, where R t are those from t
   abbrev pub spread : (ℕ → List (K × Val)) → ℕ → List (ℕ × ℕ) → List (K × Val)
   spread R b [] = []
-  spread R b (o ∷ os) = ext (M .step (b, o .0)) (grow (M .cost b (o .0)) (b, o .0)) (R (o .1)) ++ spread R b os
+  spread R b (o ∷ os) = ext (M .step (b, o .0)) (grown (b, o .0)) (R (o .1)) ++ spread R b os
 
   unfoldable pub passed : ℕ → ℕ → List (K × Val)
   passed zero b = []
@@ -78,20 +110,15 @@ module _ {K B : Type 0} (lt : K → K → Bool) (bt : B → B → Bool) where
   pour s g [] r = r
   pour s g (e ∷ l) r = pour s g l (push (s (e .0)) (g (e .1)) r)
 
-  pub pour-append : (s : K → Option K) (g : B → B) (l m r : List (K × B)) → pour s g (l ++ m) r ≡ pour s g m (pour s g l r)
-  unfolding pour
-  pour-append s g [] m r = refl
-  pour-append s g (e ∷ l) m r = pour-append s g l m (push (s (e .0)) (g (e .1)) r)
+  -- into the row r, the entries of the targets' rows, one way after another, each with its step in front
+  unfoldable pub fill : (Edge → K → Option K) → (Edge → B → B) → (ℕ → List (K × B)) → ℕ → List (ℕ × ℕ) → List (K × B) → List (K × B)
+  fill s g R b [] r = r
+  fill s g R b (o ∷ os) r = fill s g R b os (pour (s (b, o .0)) (g (b, o .0)) (R (o .1)) r)
 
 module _ {K : Type 0} (M : Machine K) (lt : K → K → Bool) (bt : Val → Val → Bool) where
-  -- into the row r, the entries of the targets' rows, one way after another
-  unfoldable pub fill : (ℕ → List (K × Val)) → ℕ → List (ℕ × ℕ) → List (K × Val) → List (K × Val)
-  fill R b [] r = r
-  fill R b (o ∷ os) r = fill R b os (pour lt bt (M .step (b, o .0)) (grow (M .cost b (o .0)) (b, o .0)) (R (o .1)) r)
-
   -- row b, from the rows R of the blocks above
   abbrev pub built : (ℕ → List (K × Val)) → ℕ → List (K × Val)
-  built R b = fill R b (M .outs b) (base M b)
+  built R b = fill lt bt (M .step) (grown M) R b (M .outs b) (base M b)
 
   -- the rows of the last k blocks
   unfoldable pub table : ℕ → List (List (K × Val))

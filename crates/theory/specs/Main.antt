@@ -11,7 +11,7 @@ use Rattle.laws.specs.Terms.{heavier}
 use Rattle.laws.specs.Orders.{Choice}
 use Rattle.form.specs.declared.Body.{Body}
 use Rattle.form.specs.Conflict.{Sound, conflicts}
-use Rattle.theory.specs.Route.{Path, bestRoute, walked}
+use Rattle.theory.specs.Route.{Path, tails, bestRoute, walked}
 use Rattle.theory.specs.Row.{Key, found}
 use Rattle.theory.specs.Run.{Run, runCost}
 use Rattle.theory.specs.Machine.{Val}
@@ -19,6 +19,8 @@ use Rattle.theory.specs.Walk.{within, walk, tally}
 use Rattle.theory.specs.Edges.{noEdges}
 use Rattle.theory.specs.Forward.{onMachine}
 use Rattle.theory.specs.Listing.{listing}
+use Rattle.theory.specs.Ways.{tailsBy, bestBy, walkedBy}
+use Rattle.theory.specs.Pairwise.{pairwise}
 use Rattle.theory.specs.Bound.{run-bound}
 use Rattle.theory.specs.SweepWords.{Words, wordsOf, wordsFound, rowWords, row-zero-words, builtWords, sweep-words}
 use Rattle.theory.specs.WalkWords.{advance, finish, nothing, walk-words}
@@ -27,7 +29,7 @@ module _ (body : Body) (g : Sound body) (cost : ℕ → ℕ → ℕ) (prefers : 
   -- the row built from the rows above is the row by definition
   pub sweep-turn : (R : ℕ → List (Key × Words)) (b : ℕ) → b < body .count → ((t : ℕ) → b < t → t < body .count → R t ≡ rowWords body (conflicts body) cost prefers t)
       → builtWords body (conflicts body) cost prefers 64 R b ≡ rowWords body (conflicts body) cost prefers b
-  sweep-turn = sweep-words body (g .onward) (conflicts body) cost prefers ch 64 (g .few) (listing body (g .onward))
+  sweep-turn = sweep-words body (conflicts body) cost prefers 64 (g .onward) (listing body (g .onward)) ch (g .few)
 
   -- row 0 holds the first conflict-free route of the preferred weight, or nothing when there is none
   pub sweep-answer : rowWords body (conflicts body) cost prefers 0 ≡ found noEdges (wordsFound body (bestRoute body cost prefers))
@@ -37,7 +39,8 @@ module _ (body : Body) (g : Sound body) (cost : ℕ → ℕ → ℕ) (prefers : 
   pub walk-answer : (budget : ℕ)
       → walk (onMachine body cost) (advance cost) (tally prefers (finish cost) (body .count) budget) (body .count) 0 noEdges nothing (0, none)
       ≡ within budget (walked body) (wordsFound body (bestRoute body cost prefers))
-  walk-answer = walk-words body (g .onward) cost prefers ch
+  unfolding walked bestRoute tails walkedBy bestBy tailsBy
+  walk-answer = walk-words body (g .onward) (pairwise body (conflicts body) (g .onward) (listing body (g .onward))) cost prefers ch
 
 -- a run of no more iterations than the count costs at most the count times the weight in row 0
 pub run-most : (body : Body) → Sound body → (cost : ℕ → ℕ → ℕ) → ((b way : ℕ) → cost b 0 ≤ cost b way) → (v : Words) → rowWords body (conflicts body) cost heavier 0 ≡ (noEdges, v) ∷ []

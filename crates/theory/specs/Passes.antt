@@ -15,11 +15,9 @@ use Rattle.laws.specs.Rows.{put, ext}
 use Rattle.form.specs.declared.Body.{Body}
 use Rattle.form.specs.Conflict.{Edge, exits, Onward}
 use Rattle.theory.specs.Route.{Path, lastBlock, paths, beginnings, weight, weighed}
-use Rattle.theory.specs.Machine.{Val, grow, Machine, spread, passed}
+use Rattle.theory.specs.Machine.{Val, grow, Machine, onBody, thenStep, readBack, goesOn, allowed, spread, passed}
 use Rattle.theory.specs.Walk.{arrive, extend, ifAllowed, visitBy, visits, whole}
 use Rattle.theory.specs.Steps.{Leads}
-use Rattle.theory.specs.Forward.{goesOn, allowed}
-use Rattle.theory.specs.Backward.{thenStep, readBack}
 
 -- ---- the visits of any machine, among those of the machine that allows all
 
@@ -48,9 +46,6 @@ module _ {S : Type 0} (M : Machine S) where
   visits-are (suc n) b s = ap (λ t. arrive M b ∷ t) (visit-by (λ t u. visits M n t u) (λ t u. visits (freely M) n t u) (λ t u. visits-are n t u) b s (M .outs b))
 
 -- ---- on the graph of a body
-
-abbrev pub onBody : {S : Type 0} → Body → (cost : ℕ → ℕ → ℕ) → (Edge → S → Option S) → S → Machine S
-onBody body cost step start = record { count = body .count; outs = exits body; step = step; cost = cost; start = start }
 
 module _ (body : Body) (cost : ℕ → ℕ → ℕ) where
   abbrev free : Machine (Unit {0})

@@ -1,7 +1,7 @@
 -- The plan of a body: what the walks need of each block, as 16 words a block in one list of 1,024. What each word is, over form's definitions. The plan is
 -- made once of a body; both ways work on it and on nothing else of the body.
 use mathlib.Core.Path.{_≡_}
-use mathlib.Core.Bool.{Bool, false, cond, _&&_}
+use mathlib.Core.Bool.{false, cond, _&&_}
 use mathlib.Core.List.{List, [], _∷_, _++_}
 use Prim.Native.Nat.{ℕ, _+_, _*_, _<_, _≤_}
 use lib.Dec.{ltb}

@@ -1,7 +1,7 @@
 -- How large weights are: the most that each block's steps cost, and what that comes to up to a block. Blocks ascend along a path, so no path weighs more. Rests on Route
 -- and Steps.
 use mathlib.Core.Path.{_≡_, refl, sym, subst}
-use mathlib.Core.List.{List, [], _∷_}
+use mathlib.Core.List.{[], _∷_}
 use Prim.Native.Nat.{ℕ, zero, suc, _+_, _-_, _*_, _≤_, _<_}
 use native.Mathlib.Nat.{le-refl, le-trans, suc-mul, zero-add, zero-mul}
 use native.Mathlib.Omega.{arith}

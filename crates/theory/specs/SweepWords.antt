@@ -1,244 +1,70 @@
--- The sweep on words. An entry keeps of its tail the open edges, the weight and the sets of blocks left by jump or go and by fall. The row of entries built from the
--- rows of entries above is the row by definition (`sweep-words`, `row-words`), row 0 is the answer (`row-zero-words`); inserting takes no entry away, so a row
--- that has grown past 64 stays so (`fill-grows`). Rests on Answer and Ties.
-use mathlib.Core.Path.{_≡_, refl, sym, ap, subst, _∙_}
-use mathlib.Core.Logic.{inl, inr}
-use mathlib.Core.Bool.{Bool, true, false, not, cond, _&&_}
-use mathlib.Core.List.{List, [], _∷_, map, map-map}
-use mathlib.Core.Option.{Option, none, some}
-use Prim.Native.Nat.{ℕ, suc, _+_, _≤_, _<_, _-_, _*_, _^_}
-use native.Mathlib.Nat.{le-refl, le-trans}
-use native.Mathlib.Omega.{arith}
-use borrow.Author.Tests.{eqb-true}
-use lib.Dec.{eqb}
+-- The sweep on words for pairs in conflict, as the upper layer cites it: Words at Pairwise. Rests on Words, Pairwise and Listing.
+use mathlib.Core.Path.{_≡_, sym, ap, _∙_}
+use mathlib.Core.Bool.{Bool, _&&_}
+use mathlib.Core.List.{List, map, map-map}
+use Prim.Native.Nat.{ℕ, _≤_, _<_, _^_}
 use lib.ListN.{length, length-map}
 use Rattle.laws.specs.Sets.{setOf-lt}
-use Rattle.laws.specs.Terms.{Mem, Sorted, next}
+use Rattle.laws.specs.Terms.{Mem}
 use Rattle.laws.specs.Orders.{Choice}
-use Rattle.laws.specs.Lists.{map-out, only-out}
-use Rattle.laws.specs.Rows.{insert, covers-insert, insert-across, insert-grows}
 use Rattle.form.specs.declared.Body.{Body}
 use Rattle.form.specs.Conflict.{Edge, Pair, exits, Onward, listed}
-use Rattle.theory.specs.Route.{Path, lastBlock, paths, conflict, tails, weighed, bestRoute, weight}
-use Rattle.theory.specs.Row.{Key, keyBefore, openEdges, found, rowOf, openTails, leftBy, Entry, row, bare}
-use Rattle.theory.specs.Machine.{Val, grow, better, base, push, pour, fill, passed-sorted, ahead}
-use Rattle.theory.specs.RowLaws.{better-order, row-is}
-use Rattle.theory.specs.Steps.{Leads}
+use Rattle.theory.specs.Route.{Path, conflict, tails, bestRoute}
+use Rattle.theory.specs.Row.{Key, keyBefore, bare, openEdges, found, rowOf, openTails, row}
+use Rattle.theory.specs.Machine.{fill}
 use Rattle.theory.specs.Edges.{noEdges}
-use Rattle.theory.specs.Backward.{Listing, stepBack, backMachine}
-use Rattle.theory.specs.Passes.{paths-lead}
-use Rattle.theory.specs.Ties.{mark, earlier, left-cons, left-nil, earlier-first, left-lt}
-use Rattle.theory.specs.Range.{upTo, weight-most}
-use Rattle.theory.specs.Answer.{key-order, passed-tails, sweep-row, row-zero}
-use Rattle.lower_laws.specs.ConflictList.{exits-ordered}
+use Rattle.theory.specs.Backward.{Listing, stepBack}
+use Rattle.theory.specs.Ways.{tailsBy, bestBy, openTailsBy}
+use Rattle.theory.specs.Pairwise.{none-open, pairwise}
+use Rattle.theory.specs.Words as over
+pub use Rattle.theory.specs.Words.{Words, wordsOf, onWords, entryFrom, wordsFound, growWords, betterWords, Fits}
 
--- what is kept of a path: its weight, the blocks left by jump or go, the blocks left by fall
-abbrev pub Words : Type 0
-Words = ℕ × (ℕ × ℕ)
+module _ (body : Body) (list : List Pair) (cost : ℕ → ℕ → ℕ) (prefers : ℕ → ℕ → Bool) where
+  -- the row by definition, on words
+  abbrev pub rowWords : ℕ → List (Key × Words)
+  rowWords b = map (onWords body) (rowOf keyBefore prefers (openTails body list cost b))
 
-abbrev pub wordsOf : Body → Val → Words
-wordsOf body v = (v .0, (leftBy body 1 (v .1), leftBy body 2 (v .1)))
+  pub row-words : (b : ℕ) → row body list cost prefers b ≡ map entryFrom (rowWords b)
+  unfolding row
+  row-words b = sym (map-map entryFrom (onWords body) (rowOf keyBefore prefers (openTails body list cost b)))
 
-abbrev pub onWords : Body → Key × Val → Key × Words
-onWords body e = (e .0, wordsOf body (e .1))
+  pub row-length : (b : ℕ) → length (row body list cost prefers b) ≡ length (rowWords b)
+  row-length b = ap length (row-words b) ∙ length-map (rowWords b) entryFrom
 
--- the row by definition, on words
-abbrev pub rowWords : Body → List Pair → (cost : ℕ → ℕ → ℕ) → (prefers : ℕ → ℕ → Bool) → ℕ → List (Key × Words)
-rowWords body list cost prefers b = map (onWords body) (rowOf keyBefore prefers (openTails body list cost b))
+  -- row 0 is the first route of the preferred weight, or nothing
+  pub row-zero-words : rowWords 0 ≡ found noEdges (wordsFound body (bestRoute body cost prefers))
+  unfolding openTails tails bestRoute openTailsBy tailsBy bestBy
+  row-zero-words = over.row-zero-words body (conflict body) (openEdges body list) (none-open body list) cost prefers
 
--- an entry of the table from its key and words
-abbrev pub entryFrom : Key × Words → Entry
-entryFrom e = record { jumps = e .0 .0; falls = e .0 .1; weight = e .1 .0; jumped = e .1 .1 .0; fallen = e .1 .1 .1 }
+  module _ (n : ℕ) where
+    -- the entries of the row of one target, with the step in front, into the row r
+    abbrev pub pourWords : Edge → List (Key × Words) → List (Key × Words) → List (Key × Words)
+    pourWords = over.pourWords body (stepBack body list) cost prefers n
 
-pub row-words : (body : Body) (list : List Pair) (cost : ℕ → ℕ → ℕ) (prefers : ℕ → ℕ → Bool) (b : ℕ) → row body list cost prefers b ≡ map entryFrom (rowWords body list cost prefers b)
-unfolding row
-row-words body list cost prefers b = sym (map-map entryFrom (onWords body) (rowOf keyBefore prefers (openTails body list cost b)))
+    unfoldable pub fillWords : (ℕ → List (Key × Words)) → ℕ → List (ℕ × ℕ) → List (Key × Words) → List (Key × Words)
+    unfolding fill
+    fillWords = over.fillWords body (stepBack body list) cost prefers n
 
-pub row-length : (body : Body) (list : List Pair) (cost : ℕ → ℕ → ℕ) (prefers : ℕ → ℕ → Bool) (b : ℕ) → length (row body list cost prefers b) ≡ length (rowWords body list cost prefers b)
-row-length body list cost prefers b = ap length (row-words body list cost prefers b) ∙ length-map (rowWords body list cost prefers b) entryFrom
+    abbrev pub baseWords : ℕ → List (Key × Words)
+    baseWords = over.baseWords body (stepBack body list) cost prefers n
 
--- row 0 is the first route of the preferred weight, or nothing
-abbrev pub wordsFound : Body → Option Val → Option Words
-wordsFound body none = none
-wordsFound body (some v) = some (wordsOf body v)
-
-found-words : (body : Body) (o : Option Val) → map (onWords body) (found noEdges o) ≡ found noEdges (wordsFound body o)
-found-words body none = refl
-found-words body (some v) = refl
-
-pub row-zero-words : (body : Body) (list : List Pair) (cost : ℕ → ℕ → ℕ) (prefers : ℕ → ℕ → Bool) → rowWords body list cost prefers 0 ≡ found noEdges (wordsFound body (bestRoute body cost prefers))
-row-zero-words body list cost prefers = ap (map (onWords body)) (row-zero body list cost prefers) ∙ found-words body (bestRoute body cost prefers)
-
--- a step in front
-abbrev pub growWords : (cost : ℕ → ℕ → ℕ) → Edge → Words → Words
-growWords cost x u = (cost (x .0) (x .1) + u .0, (mark 1 x (u .1 .0), mark 2 x (u .1 .1)))
-
--- the preferred weight, and of equal weights the first, by words of n bits
-abbrev pub betterWords : ℕ → (prefers : ℕ → ℕ → Bool) → Words → Words → Bool
-betterWords n prefers u v = next (prefers (u .0) (v .0)) (prefers (v .0) (u .0)) (earlier n (u .1 .0) (v .1 .0))
-
--- ---- the row built on words
-
-module _ (body : Body) (list : List Pair) (cost : ℕ → ℕ → ℕ) (prefers : ℕ → ℕ → Bool) (n : ℕ) where
-  -- the entries of the row of one target, with the step in front, into the row r
-  abbrev pub pourWords : Edge → List (Key × Words) → List (Key × Words) → List (Key × Words)
-  pourWords x l r = pour keyBefore (betterWords n prefers) (stepBack body list x) (growWords cost x) l r
-
-  unfoldable pub fillWords : (ℕ → List (Key × Words)) → ℕ → List (ℕ × ℕ) → List (Key × Words) → List (Key × Words)
-  fillWords R b [] r = r
-  fillWords R b (o ∷ os) r = fillWords R b os (pourWords (b, o .0) (R (o .1)) r)
-
-  abbrev pub baseWords : ℕ → List (Key × Words)
-  baseWords b = cond (eqb (suc b) (body .count)) ((noEdges, (cost b 0, (0, 0))) ∷ []) []
-
-  abbrev pub builtWords : (ℕ → List (Key × Words)) → ℕ → List (Key × Words)
-  builtWords R b = fillWords R b (exits body b) (baseWords b)
-
-  -- ---- a row only grows
-
-  push-grows : (o : Option Key) (v : Words) (r : List (Key × Words)) → length r ≤ length (push keyBefore (betterWords n prefers) o v r)
-  push-grows none v r = le-refl (length r)
-  push-grows (some k) v r = insert-grows keyBefore (betterWords n prefers) (k, v) r
-
-  pub pour-grows : (x : Edge) (l r : List (Key × Words)) → length r ≤ length (pourWords x l r)
-  unfolding pour
-  pour-grows x [] r = le-refl (length r)
-  pour-grows x (e ∷ l) r = le-trans (push-grows (stepBack body list x (e .0)) (growWords cost x (e .1)) r) (pour-grows x l _)
-
-  pub fill-grows : (R : ℕ → List (Key × Words)) (b : ℕ) (os : List (ℕ × ℕ)) (r : List (Key × Words)) → length r ≤ length (fillWords R b os r)
-  unfolding fillWords
-  fill-grows R b [] r = le-refl (length r)
-  fill-grows R b (o ∷ os) r = le-trans (pour-grows (b, o .0) (R (o .1)) r) (fill-grows R b os _)
-
--- ---- it is the row built on paths
-
-module _ (body : Body) (w : Onward body) (list : List Pair) (cost : ℕ → ℕ → ℕ) (prefers : ℕ → ℕ → Bool) (ch : Choice prefers) (n : ℕ) (enough : body .count ≤ n) where
-  -- every entry's path leads from b to the last block
-  abbrev From : ℕ → List (Key × Val) → Type 0
-  From b r = (e : Key × Val) → Mem e r → Leads body b (e .1 .1) (lastBlock body)
-
-  grow-words : (x : Edge) (v : Val) → x .0 < body .count → wordsOf body (grow (cost (x .0) (x .1)) x v) ≡ growWords cost x (wordsOf body v)
-  grow-words x v h = λ i. (cost (x .0) (x .1) + v .0, (left-cons body 1 x (v .1) h i, left-cons body 2 x (v .1) h i))
-
-  same-better : (b : ℕ) (u v : Val) → Leads body b (u .1) (lastBlock body) → Leads body b (v .1) (lastBlock body) → betterWords n prefers (wordsOf body u) (wordsOf body v) ≡ better prefers u v
-  same-better b u v l m = ap (next (prefers (u .0) (v .0)) (prefers (v .0) (u .0))) (earlier-first body w n enough b (u .1) (v .1) l m)
-
-  module _ (b way t : ℕ) (exit : Mem (way, t) (exits body b)) where
-    abbrev x : Edge
-    x = (b, way)
-
-    abbrev put-in : Option Key → Val → List (Key × Val) → List (Key × Val)
-    put-in o v r = push keyBefore (better prefers) o v r
-
-    longer : (p : Path) → Leads body t p (lastBlock body) → Leads body b (x ∷ p) (lastBlock body)
-    longer p l = (t, refl, exit, l)
-
-    push-words : (o : Option Key) (v : Val) (r : List (Key × Val)) → Leads body t (v .1) (lastBlock body) → From b r
-        → push keyBefore (betterWords n prefers) o (growWords cost x (wordsOf body v)) (map (onWords body) r) ≡ map (onWords body) (put-in o (grow (cost b way) x v) r)
-    push-words none v r l f = refl
-    push-words (some k) v r l f =
-        ap (λ u. insert keyBefore (betterWords n prefers) (k, u) (map (onWords body) r)) (sym (grow-words x v (omega (arith, w .above b (way, t) exit, w .inside b (way, t) exit))))
-        ∙ insert-across keyBefore (better prefers) (betterWords n prefers) (wordsOf body) (k, grow (cost b way) x v) r (λ e m. same-better b (grow (cost b way) x v) (e .1) (longer (v .1) l) (f e m))
-
-    push-from : (o : Option Key) (v : Val) (r : List (Key × Val)) → Leads body t (v .1) (lastBlock body) → From b r → From b (put-in o (grow (cost b way) x v) r)
-    push-from none v r l f e m = f e m
-    push-from (some k) v r l f e m = by (covers-insert keyBefore (better prefers) key-order (better-order prefers ch) (k, grow (cost b way) x v) r .from e m)
-      where
-        by : Mem e ((k, grow (cost b way) x v) ∷ r) → Leads body b (e .1 .1) (lastBlock body)
-        by (inl q) = subst (λ (e : Key × Val). Leads body b (e .1 .1) (lastBlock body)) (sym q) (longer (v .1) l)
-        by (inr i) = f e i
-
-    abbrev pour-paths : List (Key × Val) → List (Key × Val) → List (Key × Val)
-    pour-paths l r = pour keyBefore (better prefers) (stepBack body list x) (grow (cost b way) x) l r
-
-    pour-words : (l r : List (Key × Val)) → From t l → From b r → (pourWords body list cost prefers n x (map (onWords body) l) (map (onWords body) r) ≡ map (onWords body) (pour-paths l r)) × From b (pour-paths l r)
-    unfolding pour
-    pour-words [] r f g = (refl, g)
-    pour-words (e ∷ l) r f g =
-        let o = stepBack body list x (e .0) in
-        let h = f e (inl refl) in
-        let (p, q) = pour-words l (put-in o (grow (cost b way) x (e .1)) r) (λ d m. f d (inr m)) (push-from o (e .1) r h g) in
-        (ap (pourWords body list cost prefers n x (map (onWords body) l)) (push-words o (e .1) r h g) ∙ p, q)
-
-  fill-words : (R : ℕ → List (Key × Val)) (b : ℕ) (os : List (ℕ × ℕ)) → ((o : ℕ × ℕ) → Mem o os → Mem o (exits body b)) → ((o : ℕ × ℕ) → Mem o os → From (o .1) (R (o .1)))
-      → (r : List (Key × Val)) → From b r
-      → fillWords body list cost prefers n (λ t. map (onWords body) (R t)) b os (map (onWords body) r) ≡ map (onWords body) (fill (backMachine body list cost) keyBefore (better prefers) R b os r)
-  unfolding fillWords fill
-  fill-words R b [] i f r g = refl
-  fill-words R b (o ∷ os) i f r g =
-      let (p, q) = pour-words b (o .0) (o .1) (i o (inl refl)) (R (o .1)) r (f o (inl refl)) g in
-      ap (fillWords body list cost prefers n (λ t. map (onWords body) (R t)) b os) p ∙ fill-words R b os (λ d m. i d (inr m)) (λ d m. f d (inr m)) _ q
-
-  base-words : (b : ℕ) → baseWords body list cost prefers n b ≡ map (onWords body) (base (backMachine body list cost) b)
-  base-words b = by (eqb (suc b) (body .count))
-    where
-      by : (c : Bool) → cond c ((noEdges, (cost b 0, (0, 0))) ∷ []) [] ≡ map (onWords body) (cond c ((noEdges, (cost b 0, [])) ∷ []) [])
-      by true = λ i. (noEdges, (cost b 0, (sym (left-nil body 1) i, sym (left-nil body 2) i))) ∷ []
-      by false = refl
-
-  fill-same : (R S : ℕ → List (Key × Words)) (b : ℕ) (os : List (ℕ × ℕ)) → ((o : ℕ × ℕ) → Mem o os → R (o .1) ≡ S (o .1)) → (r : List (Key × Words))
-      → fillWords body list cost prefers n R b os r ≡ fillWords body list cost prefers n S b os r
-  unfolding fillWords
-  fill-same R S b [] h r = refl
-  fill-same R S b (o ∷ os) h r =
-      ap (λ l. fillWords body list cost prefers n R b os (pourWords body list cost prefers n (b, o .0) l r)) (h o (inl refl)) ∙ fill-same R S b os (λ q m. h q (inr m)) _
-
-  tails-from : (b : ℕ) → From b (openTails body list cost b)
-  unfolding openTails tails
-  tails-from b e m =
-      let (p, i, q) = map-out (λ (p : Path). (openEdges body list b p, weighed body cost p)) (tails body b) e m in
-      subst (λ (v : Key × Val). Leads body b (v .1 .1) (lastBlock body)) (sym q) (paths-lead body (body .count) b p (only-out (λ p. not (conflict body p)) (paths body (body .count) b) p i .1))
-
-  module _ (L : Listing body list) where
-    tails-sorted : (b : ℕ) → Sorted ahead (openTails body list cost b)
-    tails-sorted b = subst (Sorted ahead) (passed-tails body w list L cost b) (passed-sorted (backMachine body list cost) (exits-ordered body) (body .count) b)
-
-    rows-from : (b : ℕ) → From b (rowOf keyBefore prefers (openTails body list cost b))
-    rows-from b e m = tails-from b e (row-is keyBefore key-order prefers ch (openTails body list cost b) (tails-sorted b) .covers .from e m)
+    abbrev pub builtWords : (ℕ → List (Key × Words)) → ℕ → List (Key × Words)
+    builtWords R b = fillWords R b (exits body b) (baseWords b)
 
     -- the rows above are those by definition: then the built row is
-    pub sweep-words : (R : ℕ → List (Key × Words)) (b : ℕ) → b < body .count → ((t : ℕ) → b < t → t < body .count → R t ≡ rowWords body list cost prefers t)
-        → builtWords body list cost prefers n R b ≡ rowWords body list cost prefers b
-    sweep-words R b h k =
-        fill-same R (rowWords body list cost prefers) b (exits body b) (λ o m. k (o .1) (w .above b o m) (w .inside b o m)) (baseWords body list cost prefers n b)
-        ∙ ap (fillWords body list cost prefers n (rowWords body list cost prefers) b (exits body b)) (base-words b)
-        ∙ fill-words (λ t. rowOf keyBefore prefers (openTails body list cost t)) b (exits body b) (λ o m. m) (λ o m. rows-from (o .1)) (base (backMachine body list cost) b) (base-from b)
-        ∙ ap (map (onWords body)) (sweep-row body w list L cost prefers ch (λ t. rowOf keyBefore prefers (openTails body list cost t)) b h (λ t p q. refl))
-      where
-        base-from : (b : ℕ) → From b (base (backMachine body list cost) b)
-        base-from b e m = by (eqb (suc b) (body .count)) refl m
-          where
-            by : (c : Bool) → eqb (suc b) (body .count) ≡ c → Mem e (cond c ((noEdges, (cost b 0, [])) ∷ []) []) → Leads body b (e .1 .1) (lastBlock body)
-            by true q (inl p) = let d : suc b ≡ body .count = eqb-true (suc b) (body .count) q in subst (λ (v : Key × Val). Leads body b (v .1 .1) (lastBlock body)) (sym p) (omega arith)
+    pub sweep-words : Onward body → Listing body list → Choice prefers → body .count ≤ n → (R : ℕ → List (Key × Words)) (b : ℕ) → b < body .count
+        → ((t : ℕ) → b < t → t < body .count → R t ≡ rowWords t) → builtWords R b ≡ rowWords b
+    unfolding fillWords openTails tails openTailsBy tailsBy
+    sweep-words w L ch enough R b h k = over.sweep-words body w (pairwise body list w L) cost prefers ch n enough R b h k
 
 -- ---- how large the entries are
 
-pub record Fits (body : Body) (most : ℕ → ℕ) (b : ℕ) (e : Key × Words) : Type 0 where
-  pub jumps : e .0 .0 < 2 ^ body .count
-  pub falls : e .0 .1 < 2 ^ body .count
-  pub weighs : e .1 .0 + upTo most b ≤ upTo most (body .count)
-  pub jumped : e .1 .1 .0 < 2 ^ body .count
-  pub fallen : e .1 .1 .1 < 2 ^ body .count
-
-module _ (body : Body) (w : Onward body) (list : List Pair) (L : Listing body list) (cost : ℕ → ℕ → ℕ) (most : ℕ → ℕ) (cheap : (b way : ℕ) → b < body .count → cost b way ≤ most b) (prefers : ℕ → ℕ → Bool) (ch : Choice prefers) where
-  path-fits : (b : ℕ) (p : Path) → b < body .count → Leads body b p (lastBlock body) → Fits body most b (onWords body (openEdges body list b p, weighed body cost p))
+module _ (body : Body) (w : Onward body) (list : List Pair) (L : Listing body list) (cost : ℕ → ℕ → ℕ) (most : ℕ → ℕ) (cheap : (b way : ℕ) → b < body .count → cost b way ≤ most b)
+    (prefers : ℕ → ℕ → Bool) (ch : Choice prefers) where
+  opens-lt : (b : ℕ) (p : Path) → (openEdges body list b p .0 < 2 ^ body .count) × (openEdges body list b p .1 < 2 ^ body .count)
   unfolding openEdges
-  path-fits b p h l = record {
-    jumps = setOf-lt (body .count) (λ k. bare body p (k, 1) && listed list b (k, 1));
-    falls = setOf-lt (body .count) (λ k. bare body p (k, 2) && listed list b (k, 2));
-    weighs = weight-most body w cost most cheap b p h l;
-    jumped = left-lt body 1 p;
-    fallen = left-lt body 2 p;
-  }
+  opens-lt b p = (setOf-lt (body .count) (λ k. bare body p (k, 1) && listed list b (k, 1)), setOf-lt (body .count) (λ k. bare body p (k, 2) && listed list b (k, 2)))
 
   pub entry-fits : (b : ℕ) → b < body .count → (e : Key × Words) → Mem e (rowWords body list cost prefers b) → Fits body most b e
-  unfolding openTails tails
-  entry-fits b h e m =
-      let (d, i, q) = map-out (onWords body) (rowOf keyBefore prefers (openTails body list cost b)) e m in
-      let j = row-is keyBefore key-order prefers ch (openTails body list cost b) (tails-sorted body w list cost prefers ch (body .count) (le-refl (body .count)) L b) .covers .from d i in
-      let (p, k, r) = map-out (λ (p : Path). (openEdges body list b p, weighed body cost p)) (tails body b) d j in
-      let l = paths-lead body (body .count) b p (only-out (λ p. not (conflict body p)) (paths body (body .count) b) p k .1) in
-      by d p q r (path-fits b p h l)
-    where
-      by : (d : Key × Val) (p : Path) → e ≡ onWords body d → d ≡ (openEdges body list b p, weighed body cost p) → Fits body most b (onWords body (openEdges body list b p, weighed body cost p)) → Fits body most b e
-      by d p q r f = subst (Fits body most b) (sym (q ∙ ap (onWords body) r)) f
+  unfolding openTails tails openTailsBy tailsBy
+  entry-fits = over.entry-fits body w (pairwise body list w L) opens-lt cost most cheap prefers ch

@@ -16,7 +16,7 @@ use Rattle.laws.specs.Lists.{mem-left, mem-right, mem-append}
 use Rattle.laws.specs.Rows.{Covers, IsRow, covers-refl, covers-trans, covers-append, covers-cons, covers-insert, asc-insert, dom-refl, put, ext, ext-covers}
 use Rattle.form.specs.Conflict.{Edge}
 use Rattle.theory.specs.Row.{rowOf}
-use Rattle.theory.specs.Machine.{Val, grow, edgeBefore, edge-order, better, Machine, Forward, Ordered, base, spread, passedFrom, passed-eq, passed-sorted, push, pour, fill, built, table}
+use Rattle.theory.specs.Machine.{Val, grow, edgeBefore, edge-order, better, Machine, Forward, Ordered, grown, base, spread, passedFrom, passed-eq, passed-sorted, push, pour, fill, built, table}
 use Rattle.theory.specs.RowLaws.{better-order, row-is, row-eq}
 
 module _ {K B : Type 0} (lt : K → K → Bool) (bt : B → B → Bool) (oK : Order lt) (oB : Order bt) where
@@ -55,7 +55,7 @@ module _ {K : Type 0} (M : Machine K) (lt : K → K → Bool) (oK : Order lt) (p
   grow-keeps c x u v = rw (ch .shift c (u .0) (v .0), ch .shift c (v .0) (u .0), lexb-cons edgeBefore edge-order x (u .1) (v .1))
 
   fill-row : (R S : ℕ → List (K × Val)) (b : ℕ) (os : List (ℕ × ℕ)) → ((o : ℕ × ℕ) → Mem o os → Covers (better prefers) (R (o .1)) (S (o .1)))
-      → (l r : List (K × Val)) → IsRow lt (better prefers) l r → IsRow lt (better prefers) (l ++ spread M R b os) (fill M lt (better prefers) S b os r)
+      → (l r : List (K × Val)) → IsRow lt (better prefers) l r → IsRow lt (better prefers) (l ++ spread M R b os) (fill lt (better prefers) (M .step) (grown M) S b os r)
   unfolding fill
   fill-row R S b [] c l r h = rw append-nil h
   fill-row R S b (o ∷ os) c l r h =
@@ -96,14 +96,14 @@ module _ {K : Type 0} (M : Machine K) (lt : K → K → Bool) (oK : Order lt) (p
       let d : M .count - k + (j - suc (M .count - suc k)) ≡ j = omega arith in
       rw d at (f (j - suc (M .count - suc k)) (omega arith)))
 
-  grown : (k : ℕ) (r : List (K × Val)) (t : List (List (K × Val))) → suc k ≤ M .count → r ≡ rowOf lt prefers (passedFrom M (M .count - suc k)) → TableOf k t → TableOf (suc k) (r ∷ t)
-  grown k r t h a f zero p = let e : M .count - suc k + 0 ≡ M .count - suc k = omega arith in rw e a
-  grown k r t h a f (suc i) p = let e : M .count - suc k + suc i ≡ M .count - k + i = omega arith in rw e (f i (le-of-suc-le-suc p))
+  one-more : (k : ℕ) (r : List (K × Val)) (t : List (List (K × Val))) → suc k ≤ M .count → r ≡ rowOf lt prefers (passedFrom M (M .count - suc k)) → TableOf k t → TableOf (suc k) (r ∷ t)
+  one-more k r t h a f zero p = let e : M .count - suc k + 0 ≡ M .count - suc k = omega arith in rw e a
+  one-more k r t h a f (suc i) p = let e : M .count - suc k + suc i ≡ M .count - k + i = omega arith in rw e (f i (le-of-suc-le-suc p))
 
   table-rows : Forward M → Ordered M → (k : ℕ) → k ≤ M .count → TableOf k (table M lt (better prefers) k)
   unfolding table
   table-rows w s zero h = λ i p. absurd (not-suc-le-zero p)
-  table-rows w s (suc k) h = let f = table-rows w s k (le-of-lt h) in grown k _ (table M lt (better prefers) k) h (turn w s k (table M lt (better prefers) k) h f) f
+  table-rows w s (suc k) h = let f = table-rows w s k (le-of-lt h) in one-more k _ (table M lt (better prefers) k) h (turn w s k (table M lt (better prefers) k) h f) f
 
   pub table-row : Forward M → Ordered M → (b : ℕ) → b < M .count → getD (table M lt (better prefers) (M .count)) b [] ≡ rowOf lt prefers (passedFrom M b)
   table-row w s b h = let e : M .count - M .count + b ≡ b = omega arith in rw e at (table-rows w s (M .count) (le-refl (M .count)) b h)

@@ -1,5 +1,5 @@
--- The full walk on words, and the route bytes from the words of a path. The walk that carries weight and sets forward counts the conflict-free beginnings and keeps the
--- words of the first route of the preferred weight (`walk-words`); a route's bytes follow from its two sets (`bytes-words`). Rests on Answer, Ties and SweepWords.
+-- The full walk on words, and the route bytes from the words of a path. The walk that carries weight and sets forward counts the beginnings that are not
+-- ruled out and keeps the words of the first route of the preferred weight (`walk-words`); a route's bytes follow from its two sets (`bytes-words`). Rests on Answer, Ties and Words.
 use mathlib.Core.Path.{_≡_, refl, sym, ap, ap₂, _∙_}
 use mathlib.Core.Bool.{Bool, true, false, not, cond, _||_, or-false}
 use mathlib.Core.List.{List, [], _∷_, map, map-map}
@@ -16,17 +16,16 @@ use Rattle.laws.specs.Lists.{only-out, map-same, range-out}
 use Rattle.laws.specs.Sets.{ext, bit-or, bit-none}
 use Rattle.form.specs.declared.Body.{Body}
 use Rattle.form.specs.Conflict.{Edge, Onward, same}
-use Rattle.theory.specs.Route.{Path, lastBlock, paths, conflict, tails, routes, weight, weighed, choose, best, bestRoute, wayOf, routeBytes, walked}
-use Rattle.theory.specs.Row.{leftBy}
+use Rattle.theory.specs.Route.{Path, lastBlock, paths, weight, weighed, choose, best, wayOf, routeBytes}
+use Rattle.theory.specs.Row.{Key, leftBy}
 use Rattle.theory.specs.Machine.{Val}
 use Rattle.theory.specs.Walk.{carry, within, walk, tally}
 use Rattle.theory.specs.Steps.{Leads}
-use Rattle.theory.specs.Edges.{noEdges}
-use Rattle.theory.specs.Forward.{onMachine}
 use Rattle.theory.specs.Passes.{paths-lead}
 use Rattle.theory.specs.Ties.{mark, mark-bit, mark-lt, leaves, left-bit, left-lt, left-nil, way-words}
+use Rattle.theory.specs.Ways.{Ways, walker, tailsBy, bestBy, walkedBy}
 use Rattle.theory.specs.Answer.{walk-routes}
-use Rattle.theory.specs.SweepWords.{Words, wordsOf, wordsFound}
+use Rattle.theory.specs.Words.{Words, wordsOf, wordsFound}
 
 -- ---- what the walk carries
 
@@ -97,17 +96,18 @@ module _ (body : Body) (prefers : ℕ → ℕ → Bool) where
   best-words [] = refl
   best-words (v ∷ l) = ap (choose prefers (wordsOf body v)) (best-words l) ∙ choose-words v (best prefers l)
 
--- over the budget, or the number of conflict-free beginnings and the words of the first route of the preferred weight
-pub walk-words : (body : Body) → Onward body → (cost : ℕ → ℕ → ℕ) (prefers : ℕ → ℕ → Bool) → Choice prefers → (budget : ℕ)
-    → walk (onMachine body cost) (advance cost) (tally prefers (finish cost) (body .count) budget) (body .count) 0 noEdges nothing (0, none)
-    ≡ within budget (walked body) (wordsFound body (bestRoute body cost prefers))
-unfolding bestRoute tails
-walk-words body w cost prefers ch budget =
-    walk-routes body w cost (advance cost) (finish cost) nothing prefers ch budget
-    ∙ ap (λ l. within budget (walked body) (best prefers l)) (map-same (λ p. finish cost (lastBlock body, carry (advance cost) nothing p)) (λ p. wordsOf body (weighed body cost p)) (routes body)
-    (λ p m. route-words body w cost p (paths-lead body (body .count) 0 p (only-out (λ p. not (conflict body p)) (paths body (body .count) 0) p m .1))))
-    ∙ ap (λ l. within budget (walked body) (best prefers l)) (sym (map-map (wordsOf body) (weighed body cost) (routes body)))
-    ∙ ap (within budget (walked body)) (best-words body prefers (map (weighed body cost) (routes body)))
+-- over the budget, or the number of beginnings that are not ruled out and the words of the first route of the preferred weight
+pub walk-words : (body : Body) → Onward body → {ruledOut : Path → Bool} {opens : ℕ → Path → Key} (W : Ways body ruledOut opens) → (cost : ℕ → ℕ → ℕ) (prefers : ℕ → ℕ → Bool) → Choice prefers
+    → (budget : ℕ)
+    → walk (walker body W cost) (advance cost) (tally prefers (finish cost) (body .count) budget) (body .count) 0 (W .start) nothing (0, none)
+    ≡ within budget (walkedBy body ruledOut) (wordsFound body (bestBy body ruledOut cost prefers))
+unfolding bestBy tailsBy
+walk-words body w {ruledOut} W cost prefers ch budget =
+    walk-routes body W cost (advance cost) (finish cost) nothing prefers ch budget
+    ∙ ap (λ l. within budget (walkedBy body ruledOut) (best prefers l)) (map-same (λ p. finish cost (lastBlock body, carry (advance cost) nothing p)) (λ p. wordsOf body (weighed body cost p)) (tailsBy body ruledOut 0)
+    (λ p m. route-words body w cost p (paths-lead body (body .count) 0 p (only-out (λ p. not (ruledOut p)) (paths body (body .count) 0) p m .1))))
+    ∙ ap (λ l. within budget (walkedBy body ruledOut) (best prefers l)) (sym (map-map (wordsOf body) (weighed body cost) (tailsBy body ruledOut 0)))
+    ∙ ap (within budget (walkedBy body ruledOut)) (best-words body prefers (map (weighed body cost) (tailsBy body ruledOut 0)))
 
 -- ---- the route bytes
 
