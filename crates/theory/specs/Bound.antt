@@ -1,37 +1,38 @@
--- Theorem 5: the route of every iteration has no conflict (`iteration-free`), so it is one of the routes; one that is left early could go on to the end (`goes-on`), so it costs no
--- more than some route; and a run of no more iterations than the count costs at most the count times the heaviest weight (`run-bound`). Rests on Run, Steps, Passes and relations.
+-- Theorem 5: the route of every iteration has no conflict (`iteration-free`), so it is one of the routes; one that is left
+-- early could go on to the end, so it costs no more than some route; and a run of no more iterations than the count costs
+-- at most the bound of the count and the heaviest weight (`run-bound`). The same whatever rules paths out, where no
+-- iteration takes such a path (`taken-bound`). Rests on RunWide, Steps, Passes, Best and lower_laws.
 use mathlib.Core.Path.{_≡_, refl, sym, ap, subst, _∙_}
-use mathlib.Core.Logic.{_⊎_, inl, inr}
 use mathlib.Core.Bool.{Bool, true, false, not, cond, _||_, _&&_}
 use mathlib.Core.List.{List, [], _∷_, map}
 use mathlib.Core.Option.{Option, none, some}
-use Prim.Native.Nat.{ℕ, zero, suc, _+_, _*_, _≤_, _<_}
+use Prim.Native.Nat.{ℕ, suc, _+_, _≤_, _<_}
 use native.Mathlib.Nat.{suc-mul, le-trans, mul-le-mul-right}
 use native.Mathlib.Omega.{arith}
-use borrow.Author.Tests.{eqb-true, eqb-false, ne-eqb, ltb-false}
+use borrow.Author.Tests.{eqb-true, eqb-false, ltb-false}
 use lib.Dec.{eqb}
 use lib.IntN.{ℤ}
 use lib.ListN.{length}
-use mir.Syntax.{w32}
-use mir.Val.{SFits}
 use Rattle.laws.specs.Terms.{Mem, anyOf, heavier}
-use Rattle.laws.specs.Tests.{clash, split, and-out, or-out, or-no, is-false, not-out, or-none, eqb-same}
-use Rattle.laws.specs.Sets.{below-or-not}
-use Rattle.laws.specs.Orders.{Choice, asym, ntrans, heaviest}
+use Rattle.laws.specs.Tests.{clash, and-out, or-out, or-no, is-false, not-out, or-none}
+use Rattle.laws.specs.Orders.{Choice, heaviest}
 use Rattle.laws.specs.Lists.{map-in, only-in}
 use Rattle.form.specs.declared.Body.{Body}
 use Rattle.form.specs.declared.Effect.{Effect}
 use Rattle.form.specs.Relation.{meets, opposite}
-use Rattle.form.specs.Conflict.{Edge, Condition, block, effectsOf, exitsBy, exits, isTest, condition, met, opposes, denies, touches, later, lastOn, refuses, Onward, Sound}
+use Rattle.form.specs.Conflict.{Edge, Condition, block, effectsOf, isTest, condition, met, opposes, denies, touches, later, lastOn, refuses, Onward, Sound}
 use Rattle.lower_laws.specs.Relations.{opposite-is}
 use Rattle.lower_laws.specs.Conditions.{contradict-says}
-use Rattle.theory.specs.Route.{Path, lastBlock, paths, conflict, tails, routes, weight, weighed, choose, best, bestRoute}
+use Rattle.theory.specs.Route.{Path, lastBlock, paths, conflict, tails, routes, weight, weighed, bestRoute, boundOf}
 use Rattle.theory.specs.Run.{State, Does, Do, holdsAt, Leaves, Iteration, Beginning, Run, runCost}
 use Rattle.theory.specs.Run.Do.{done, does}
 use Rattle.theory.specs.Run.Iteration.{ends, goes}
 use Rattle.theory.specs.Run.Beginning.{stops, passes}
 use Rattle.theory.specs.Run.Run.{rests, repeats, breaks}
 use Rattle.theory.specs.Passes.{leads-path}
+use Rattle.theory.specs.Ways.{tailsBy, bestBy}
+use Rattle.theory.specs.Best.{best-most}
+use Rattle.theory.specs.RunWide.{goes-on}
 use Rattle.lower_laws.specs.Listed.{denies-test, opposes-out}
 use Rattle.theory.specs.Steps.{Leads, wipes, against, hit, hit-nil, hit-cons, conflict-nil, conflict-cons}
 
@@ -154,79 +155,13 @@ module _ (body : Body) where
 -- ---- an iteration's path is a route
 
 module _ (body : Body) (w : Onward body) where
-  inside : {b : ℕ} {s t : State} {p : Path} → Iteration body b s p t → b < body .count
-  inside (ends e d) = omega arith
-  inside (goes {b = b} o d l r) = omega (arith, w .above b o (l .exit), w .inside b o (l .exit))
-
   iteration-leads : {b : ℕ} {s t : State} {p : Path} → Iteration body b s p t → Leads body b p (lastBlock body)
   iteration-leads (ends e d) = omega arith
   iteration-leads (goes o d l r) = (o .1, refl, l .exit, iteration-leads r)
 
-  pub iteration-route : Known body → {s t : State} {p : Path} → Iteration body 0 s p t → Mem p (routes body)
-  unfolding tails
-  iteration-route k {p = p} i = only-in (λ p. not (conflict body p)) (paths body (body .count) 0) p (ap not (iteration-free body k i)) (leads-path body w (body .count) 0 p (inside i) (omega arith) (iteration-leads i))
-
 -- ---- an iteration that is left early could go on to the end
 
--- a state in which the effect is done
-done-once : (a : Effect) → SFits w32 (a .constant) → (s : State) → (t : State) × Does a s t
-done-once a fits s = (record { value = value; fits = in-range }, record { constant = λ _. here; others = there })
-  where
-    value : ℕ → ℤ
-    value v = cond (eqb v (a .variable)) (a .constant) (s .value v)
-
-    in-range : (v : ℕ) → SFits w32 (value v)
-    in-range v = split (eqb v (a .variable)) (λ e. rw e fits) (λ e. rw e (s .fits v))
-
-    here : value (a .variable) ≡ a .constant
-    here = rw (eqb-same (a .variable))
-
-    there : (v : ℕ) → (v ≡ a .variable → ⊥) → value v ≡ s .value v
-    there v n = rw (ne-eqb v (a .variable) n)
-
-all-done : (l : List Effect) → ((a : Effect) → Mem a l → SFits w32 (a .constant)) → (s : State) → (t : State) × Do l s t
-all-done [] fits s = (s, done)
-all-done (a ∷ l) fits s =
-    let (t, d) = done-once a (fits a (inl refl)) s in
-    let (u, r) = all-done l (λ e m. fits e (inr m)) t in
-    (u, does d r)
-
--- a block with an exit can be left: a test by the way that its relation tells
-by-relation : (ending jump fall : ℕ) (holds : Bool) (o : ℕ × ℕ) → Mem o (exitsBy ending jump fall)
-    → (x : ℕ × ℕ) × Mem x (exitsBy ending jump fall) × ((ending ≡ 3 → holds ≡ true → x .0 ≡ 1) × (ending ≡ 3 → holds ≡ false → x .0 ≡ 2))
-by-relation zero jump fall holds o m = absurd m
-by-relation (suc zero) jump fall holds o m = ((1, jump), inl refl, (λ e h. refl, λ e h. absurd (let z : _≡_ {A = ℕ} 1 3 = e in omega arith)))
-by-relation (suc (suc zero)) jump fall holds o m = ((1, jump), inl refl, (λ e h. refl, λ e h. absurd (let z : _≡_ {A = ℕ} 2 3 = e in omega arith)))
-by-relation (suc (suc (suc zero))) jump fall true o m = ((1, jump), inl refl, (λ e h. refl, λ e h. clash refl h))
-by-relation (suc (suc (suc zero))) jump fall false o m = ((2, fall), inr (inl refl), (λ e h. clash h refl, λ e h. refl))
-by-relation (suc (suc (suc (suc above)))) jump fall holds o m = absurd m
-
 module _ (body : Body) (g : Sound body) where
-  can-leave : (b : ℕ) → suc b < body .count → (s : State) → (o : ℕ × ℕ) × Leaves body b s o
-  unfolding exits
-  can-leave b h s =
-      let (o, m) = g .going b h in
-      let (x, n, (j, f)) = by-relation (block body b .ending) (block body b .jump) (block body b .fall) (holdsAt body b s) o m in
-      (x, record { exit = n; jump = j; fall = f })
-
-  -- one block more: the last one ends, another is left and goes on
-  one-step : (b : ℕ) → b < body .count → (s : State) → ((o : ℕ × ℕ) → Mem o (exits body b) → (t : State) → (p : Path) × (u : State) × Iteration body (o .1) t p u)
-      → (p : Path) × (t : State) × Iteration body b s p t
-  one-step b h s rest = by (below-or-not (suc b) (body .count))
-    where
-      by : (suc b < body .count) ⊎ (body .count ≤ suc b) → (p : Path) × (t : State) × Iteration body b s p t
-      by (inr k) = let (t, d) = all-done (effectsOf body b) (g .fits b) s in ([], t, ends {b = b} (omega arith) d)
-      by (inl k) =
-          let (t, d) = all-done (effectsOf body b) (g .fits b) s in
-          let (o, e) = can-leave b k t in
-          let (p, u, i) = rest o (e .exit) t in
-          ((b, o .0) ∷ p, u, goes o d e i)
-
-  -- from every block and every state some iteration goes on to the end
-  pub goes-on : (n b : ℕ) → b < body .count → body .count ≤ b + n → (s : State) → (p : Path) × (t : State) × Iteration body b s p t
-  goes-on zero b h l s = absurd (omega arith)
-  goes-on (suc n) b h l s = one-step b h s (λ o m t. goes-on n (o .1) (g .onward .inside b o m) (omega (arith, g .onward .above b o m)) t)
-
   -- so it costs no more than one that goes to the end; what a block costs by no way is the least
   module _ (cost : ℕ → ℕ → ℕ) (least : (b way : ℕ) → cost b 0 ≤ cost b way) where
     whole-weight : (b : ℕ) {s t : State} {p : Path} → Iteration body b s p t → cost b 0 ≤ weight cost (lastBlock body) p
@@ -237,63 +172,71 @@ module _ (body : Body) (g : Sound body) where
     pub extended : {b last : ℕ} {s : State} {p : Path} → Beginning body b s p last → b < body .count
         → (q : Path) × (t : State) × Iteration body b s q t × (weight cost last p ≤ weight cost (lastBlock body) q)
     unfolding weight
-    extended (stops {b = b} {s = s}) h = let (q, t, i) = goes-on (body .count) b h (omega arith) s in (q, t, i, whole-weight b i)
+    extended (stops {b = b} {s = s}) h = let (q, t, i) = goes-on body g (body .count) b h (omega arith) s in (q, t, i, whole-weight b i)
     extended (passes {b = b} o d l r) h =
         let (q, t, i, w) = extended r (g .onward .inside b o (l .exit)) in
         ((b, o .0) ∷ q, t, goes o d l i, omega arith)
 
--- ---- the best of a list
+-- ---- runs, whatever rules paths out, if no iteration takes such a path
 
-module _ {B : Type 0} (prefers : ℕ → ℕ → Bool) (ch : Choice prefers) where
-  chosen : (x : ℕ × B) (o : Option (ℕ × B)) (v : ℕ × B) → choose prefers x o ≡ some v → (prefers (x .0) (v .0) ≡ false) × ((u : ℕ × B) → o ≡ some u → prefers (u .0) (v .0) ≡ false)
-  chosen x none v h = let e : x ≡ v = cc in (rw e (ch .order .irr (v .0)), λ u q. absurd (let z : _≡_ {A = ℕ} 0 1 = cc in omega arith))
-  chosen x (some y) v h = by (prefers (y .0) (x .0)) refl (cc)
-    where
-      by : (c : Bool) → prefers (y .0) (x .0) ≡ c → cond c y x ≡ v → (prefers (x .0) (v .0) ≡ false) × ((u : ℕ × B) → some y ≡ some u → prefers (u .0) (v .0) ≡ false)
-      by true p e = (rw (← e) (asym (ch .order) (y .0) (x .0) p), λ u q. let d : y ≡ u = cc in rw (← e, ← d) (ch .order .irr (y .0)))
-      by false p e = (rw (← e) (ch .order .irr (x .0)), λ u q. let d : y ≡ u = cc in rw (← e, ← d) p)
+pub record NeverTaken (body : Body) (ruledOut : Path → Bool) : Type 0 where
+  pub free : {s t : State} {p : Path} → Iteration body 0 s p t → ruledOut p ≡ false
 
-  chosen-some : (x : ℕ × B) (o : Option (ℕ × B)) → (u : ℕ × B) × (choose prefers x o ≡ some u)
-  chosen-some x none = (x, refl)
-  chosen-some x (some y) = (cond (prefers (y .0) (x .0)) y x, refl)
+module _ (body : Body) (g : Sound body) (ruledOut : Path → Bool) (never : NeverTaken body ruledOut) where
+  -- an iteration's path is a route
+  pub taken-route : {s t : State} {p : Path} → Iteration body 0 s p t → Mem p (tailsBy body ruledOut 0)
+  unfolding tailsBy
+  taken-route {p = p} i =
+      only-in (λ p. not (ruledOut p)) (paths body (body .count) 0) p (ap not (never .free i))
+      (leads-path body (g .onward) (body .count) 0 p (g .some) (omega arith) (iteration-leads body (g .onward) i))
 
-  pub best-some : (l : List (ℕ × B)) (x : ℕ × B) → Mem x l → (u : ℕ × B) × (best prefers l ≡ some u)
-  unfolding best
-  best-some (y ∷ l) x m = chosen-some y (best prefers l)
+  module _ (cost : ℕ → ℕ → ℕ) where
+    -- no iteration's weight is preferred to the best route's
+    pub taken-best : (prefers : ℕ → ℕ → Bool) → Choice prefers → {s t : State} {p : Path} → Iteration body 0 s p t
+        → (v : ℕ × Path) → bestBy body ruledOut cost prefers ≡ some v → prefers (weight cost (lastBlock body) p) (v .0) ≡ false
+    unfolding bestBy
+    taken-best prefers ch {p = p} i v h =
+        best-most prefers ch (map (weighed body cost) (tailsBy body ruledOut 0)) v h (weighed body cost p)
+        (map-in (weighed body cost) (tailsBy body ruledOut 0) p (taken-route i))
 
-  -- none of the list is preferred to the best
-  pub best-most : (l : List (ℕ × B)) (v : ℕ × B) → best prefers l ≡ some v → (x : ℕ × B) → Mem x l → prefers (x .0) (v .0) ≡ false
-  unfolding best
-  best-most (y ∷ l) v h x (inl e) = rw e ((chosen y (best prefers l) v h) .0)
-  best-most (y ∷ l) v h x (inr m) =
-      let (u, q) = best-some l x m in
-      ntrans (ch .order) (x .0) (u .0) (v .0) (best-most l u q x m) ((chosen y (best prefers l) v h) .1 u q)
+    module _ (least : (b way : ℕ) → cost b 0 ≤ cost b way) (v : ℕ × Path) (h : bestBy body ruledOut cost heavier ≡ some v) where
+      at-most : {s t : State} {p : Path} → Iteration body 0 s p t → weight cost (lastBlock body) p ≤ v .0
+      at-most {p = p} i = ltb-false (v .0) (weight cost (lastBlock body) p) (taken-best heavier heaviest i v h)
 
--- ---- runs
+      one-more : (a c n m : ℕ) → a ≤ m → c ≤ boundOf n m → a + c ≤ boundOf (suc n) m
+      one-more a c n m p q = rw (suc-mul n m) (omega arith)
 
-module _ (body : Body) (g : Sound body) (cost : ℕ → ℕ → ℕ) where
-  -- no iteration's weight is preferred to the best route's
-  pub iteration-best : (prefers : ℕ → ℕ → Bool) → Choice prefers → {s t : State} {p : Path} → Iteration body 0 s p t → (v : ℕ × Path) → bestRoute body cost prefers ≡ some v
-      → prefers (weight cost (lastBlock body) p) (v .0) ≡ false
-  unfolding bestRoute
-  iteration-best prefers ch {p = p} i v h =
-      best-most prefers ch (map (weighed body cost) (routes body)) v h (weighed body cost p) (map-in (weighed body cost) (routes body) p (iteration-route body (g .onward) (g .known) i))
+      run-cost : {l : List (Path × ℕ)} → Run body l → runCost body cost l ≤ boundOf (length l) (v .0)
+      unfolding runCost
+      run-cost rests = omega arith
+      run-cost (repeats {p = p} {l = l} i r) =
+          one-more (weight cost (lastBlock body) p) (runCost body cost l) (length l) (v .0) (at-most i) (run-cost r)
+      run-cost (breaks {p = p} {last = last} {l = l} i r) =
+          let (q, t, j, w) = extended body g cost least i (g .some) in
+          one-more (weight cost last p) (runCost body cost l) (length l) (v .0) (le-trans w (at-most j)) (run-cost r)
 
-  module _ (least : (b way : ℕ) → cost b 0 ≤ cost b way) (v : ℕ × Path) (h : bestRoute body cost heavier ≡ some v) where
-    at-most : {s t : State} {p : Path} → Iteration body 0 s p t → weight cost (lastBlock body) p ≤ v .0
-    at-most {p = p} i = ltb-false (v .0) (weight cost (lastBlock body) p) (iteration-best heavier heaviest i v h)
+      -- a run of no more iterations than the count costs at most the bound of the count and the heaviest weight
+      pub taken-bound : (count : ℕ) → {l : List (Path × ℕ)} → Run body l → length l ≤ count
+          → runCost body cost l ≤ boundOf count (v .0)
+      taken-bound count {l} r n = le-trans (run-cost r) (mul-le-mul-right (v .0) n)
 
-    one-more : (a c n m : ℕ) → a ≤ m → c ≤ n * m → a + c ≤ suc n * m
-    one-more a c n m p q = rw (suc-mul n m) (omega arith)
+-- ---- and for pairs in conflict
 
-    run-cost : {l : List (Path × ℕ)} → Run body l → runCost body cost l ≤ length l * v .0
-    unfolding runCost
-    run-cost rests = omega arith
-    run-cost (repeats {p = p} {l = l} i r) = one-more (weight cost (lastBlock body) p) (runCost body cost l) (length l) (v .0) (at-most i) (run-cost r)
-    run-cost (breaks {p = p} {last = last} {l = l} i r) =
-        let (q, t, j, w) = extended body g cost least i (g .some) in
-        one-more (weight cost last p) (runCost body cost l) (length l) (v .0) (le-trans w (at-most j)) (run-cost r)
+module _ (body : Body) (g : Sound body) where
+  never-taken : NeverTaken body (conflict body)
+  never-taken = record { free = λ i. iteration-free body (g .known) i }
 
-    -- a run of no more iterations than the count costs at most the count times the heaviest weight
-    pub run-bound : (count : ℕ) → {l : List (Path × ℕ)} → Run body l → length l ≤ count → runCost body cost l ≤ count * v .0
-    run-bound count {l} r n = le-trans (run-cost r) (mul-le-mul-right (v .0) n)
+  pub iteration-route : {s t : State} {p : Path} → Iteration body 0 s p t → Mem p (routes body)
+  unfolding tails tailsBy
+  iteration-route i = taken-route body g (conflict body) never-taken i
+
+  module _ (cost : ℕ → ℕ → ℕ) where
+    pub iteration-best : (prefers : ℕ → ℕ → Bool) → Choice prefers → {s t : State} {p : Path} → Iteration body 0 s p t
+        → (v : ℕ × Path) → bestRoute body cost prefers ≡ some v → prefers (weight cost (lastBlock body) p) (v .0) ≡ false
+    unfolding bestRoute bestBy tails tailsBy
+    iteration-best = taken-best body g (conflict body) never-taken cost
+
+    pub run-bound : ((b way : ℕ) → cost b 0 ≤ cost b way) → (v : ℕ × Path) → bestRoute body cost heavier ≡ some v
+        → (count : ℕ) → {l : List (Path × ℕ)} → Run body l → length l ≤ count → runCost body cost l ≤ boundOf count (v .0)
+    unfolding bestRoute bestBy tails tailsBy
+    run-bound = taken-bound body g (conflict body) never-taken cost

@@ -1,8 +1,7 @@
 -- The worked example of document 01: its list, routes, rows, weight, route bytes, walked and kept, by computation.
--- Rests on Route, Row and form's Conflict.
+-- Rests on Route, Row, RunWide and form's Conflict.
 use mathlib.Core.Path.{_≡_, refl, ap, _∙_}
-use mathlib.Core.Logic.{inl, inr}
-use mathlib.Core.Bool.{Bool, true, false, cond, true≢false, false≢true}
+use mathlib.Core.Bool.{Bool, true, false, cond}
 use mathlib.Core.List.{List, [], _∷_, map}
 use mathlib.Core.Option.{none, some}
 use Prim.Native.Nat.{ℕ}
@@ -22,6 +21,7 @@ use Rattle.theory.specs.Row.{Entry, bare, openEdges, addKey, keys, rowOf
 use Rattle.theory.specs.Run.{State, Does, Iteration}
 use Rattle.theory.specs.Run.Do.{done, does}
 use Rattle.theory.specs.Run.Iteration.{ends, goes}
+use Rattle.theory.specs.RunWide.{go-left, test-left}
 
 -- cost, number of effects, jump
 abbrev goesTo : ℕ → ℕ → ℕ → Block
@@ -128,15 +128,12 @@ flagged = record { value = λ v. cond (eqb v 1) (pos 1) (pos 50); fits = λ v. b
 flag : Does (sets 1 (pos 1)) fifty flagged
 flag = record { constant = λ h. refl; others = λ v n. ap (λ c. cond c (pos 1) (pos 50)) (ne-eqb v 1 n) }
 
-no-test : _≡_ {A = ℕ} 1 3 → ⊥
-no-test h = omega arith
-
 pub iteration : Iteration example 0 fifty ((0, 1) ∷ (2, 1) ∷ (3, 2) ∷ (5, 2) ∷ (6, 1) ∷ []) flagged
-unfolding block effectsBelow effectsOf exits
+unfolding block effectsBelow effectsOf
 iteration =
-    goes (1, 2) done (record { exit = inl refl; jump = λ h k. refl; fall = λ h k. absurd (true≢false k) })
-    (goes (1, 3) (does flag done) (record { exit = inl refl; jump = λ h k. refl; fall = λ h k. absurd (no-test h) })
-    (goes (2, 5) done (record { exit = inr (inl refl); jump = λ h k. absurd (false≢true k); fall = λ h k. refl })
-    (goes (2, 6) done (record { exit = inr (inl refl); jump = λ h k. absurd (false≢true k); fall = λ h k. refl })
-    (goes (1, 7) done (record { exit = inl refl; jump = λ h k. refl; fall = λ h k. absurd (no-test h) })
+    goes (1, 2) done (test-left example 0 fifty (1, 2) refl .1 refl)
+    (goes (1, 3) (does flag done) (go-left example 2 flagged (1, 3) refl .1 refl)
+    (goes (2, 5) done (test-left example 3 flagged (2, 5) refl .1 refl)
+    (goes (2, 6) done (test-left example 5 flagged (2, 6) refl .1 refl)
+    (goes (1, 7) done (go-left example 6 flagged (1, 7) refl .1 refl)
     (ends refl done)))))

@@ -5,6 +5,7 @@ pub mod Run
 pub mod Example
 -- The definitions read as document 01 words them.
 pub mod Readings
+pub mod RunWide
 -- For any machine: rows (theorem 1) and the walk (theorem 2).
 pub mod Machine
 pub mod RowLaws
@@ -19,8 +20,8 @@ pub mod Forward
 pub mod Listing
 -- The answer (theorem 4), the bound (theorem 5), and both ways on words.
 pub mod Passes
-pub mod Best
 pub mod Ways
+pub mod Best
 pub mod Answer
 pub mod Bound
 pub mod Ties

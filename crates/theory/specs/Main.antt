@@ -4,14 +4,14 @@ use mathlib.Core.Path.{_≡_, refl, sym, ap, subst, _∙_}
 use mathlib.Core.Bool.{Bool}
 use mathlib.Core.List.{List, [], _∷_}
 use mathlib.Core.Option.{Option, none, some}
-use Prim.Native.Nat.{ℕ, _*_, _≤_, _<_}
+use Prim.Native.Nat.{ℕ, _≤_, _<_}
 use native.Mathlib.Omega.{arith}
 use lib.ListN.{length}
 use Rattle.laws.specs.Terms.{heavier}
 use Rattle.laws.specs.Orders.{Choice}
 use Rattle.form.specs.declared.Body.{Body}
 use Rattle.form.specs.Conflict.{Sound, conflicts}
-use Rattle.theory.specs.Route.{Path, tails, bestRoute, walked}
+use Rattle.theory.specs.Route.{Path, tails, bestRoute, walked, boundOf}
 use Rattle.theory.specs.Row.{Key, found}
 use Rattle.theory.specs.Run.{Run, runCost}
 use Rattle.theory.specs.Machine.{Val}
@@ -42,11 +42,11 @@ module _ (body : Body) (g : Sound body) (cost : ℕ → ℕ → ℕ) (prefers : 
   unfolding walked bestRoute tails walkedBy bestBy tailsBy
   walk-answer = walk-words body (g .onward) (pairwise body (conflicts body) (g .onward) (listing body (g .onward))) cost prefers ch
 
--- a run of no more iterations than the count costs at most the count times the weight in row 0
+-- a run of no more iterations than the count costs at most the bound of the count and the weight in row 0
 pub run-most : (body : Body) → Sound body → (cost : ℕ → ℕ → ℕ) → ((b way : ℕ) → cost b 0 ≤ cost b way) → (v : Words) → rowWords body (conflicts body) cost heavier 0 ≡ (noEdges, v) ∷ []
-    → (count : ℕ) {l : List (Path × ℕ)} → Run body l → length l ≤ count → runCost body cost l ≤ count * v .0
+    → (count : ℕ) {l : List (Path × ℕ)} → Run body l → length l ≤ count → runCost body cost l ≤ boundOf count (v .0)
 run-most body g cost least v h count {l} r n = by (bestRoute body cost heavier) refl (sym (row-zero-words body (conflicts body) cost heavier) ∙ h)
   where
-    by : (o : Option Val) → bestRoute body cost heavier ≡ o → found noEdges (wordsFound body o) ≡ (noEdges, v) ∷ [] → runCost body cost l ≤ count * v .0
+    by : (o : Option Val) → bestRoute body cost heavier ≡ o → found noEdges (wordsFound body o) ≡ (noEdges, v) ∷ [] → runCost body cost l ≤ boundOf count (v .0)
     by none e f = let z : _≡_ {A = ℕ} 0 1 = cc in absurd (omega arith)
-    by (some u) e f = let d : _≡_ {A = Key × Words} (noEdges, wordsOf body u) (noEdges, v) = cc in subst (λ (x : Words). runCost body cost l ≤ count * x .0) (ap (λ (e : Key × Words). e .1) d) (run-bound body g cost least u e count r n)
+    by (some u) e f = let d : _≡_ {A = Key × Words} (noEdges, wordsOf body u) (noEdges, v) = cc in subst (λ (x : Words). runCost body cost l ≤ boundOf count (x .0)) (ap (λ (e : Key × Words). e .1) d) (run-bound body g cost least u e count r n)
