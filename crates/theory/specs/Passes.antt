@@ -161,48 +161,66 @@ module _ (body : Body) (cost : ℕ → ℕ → ℕ) where
 -- ---- the listed paths are the walks in the graph
 
 module _ (body : Body) where
-  one-more : (b t : ℕ) (o : ℕ × ℕ) (q p : Path) → Mem o (exits body b) → p ≡ (b, o .0) ∷ q → Leads body (o .1) q t → Leads body b p t
-  one-more b t o q p m e l = subst (λ (z : Path). Leads body b z t) (sym e) (o .1, refl, m, l)
+  -- by each exit of b, what P has from where it leads
+  abbrev pub steps : (P : ℕ → List Path) → ℕ → List Path
+  steps P b = each (exits body b) (λ o. map (λ p. (b, o .0) ∷ p) (P (o .1)))
+
+  pub steps-in : (P : ℕ → List Path) (b u : ℕ) (x : Edge) (p : Path) → x .0 ≡ b → Mem (x .1, u) (exits body b)
+      → Mem p (P u) → Mem (x ∷ p) (steps P b)
+  steps-in P b u x p e m i =
+      each-in (exits body b) (λ o. map (λ p. (b, o .0) ∷ p) (P (o .1))) (x .1, u) (x ∷ p) m
+      (subst (λ (y : Edge). Mem (y ∷ p) (map (λ (p : Path). (b, x .1) ∷ p) (P u))) (λ j. (sym e j, x .1))
+      (map-in (λ (p : Path). (b, x .1) ∷ p) (P u) p i))
+
+  -- what leads on from there leads on from b
+  steps-out : (P : ℕ → List Path) (b : ℕ) (p : Path) → Mem p (steps P b)
+      → (u : ℕ) × (q : Path) × Mem q (P u) × ((t : ℕ) → Leads body u q t → Leads body b p t)
+  steps-out P b p m =
+      let (o, i, k) = each-out (exits body b) (λ o. map (λ p. (b, o .0) ∷ p) (P (o .1))) p m in
+      let (q, j, e) = map-out (λ (p : Path). (b, o .0) ∷ p) (P (o .1)) p k in
+      (o .1, q, j, λ t l. one-more b t o q p i e l)
+    where
+      one-more : (b t : ℕ) (o : ℕ × ℕ) (q p : Path) → Mem o (exits body b) → p ≡ (b, o .0) ∷ q → Leads body (o .1) q t
+          → Leads body b p t
+      one-more b t o q p m e l = subst (λ (z : Path). Leads body b z t) (sym e) (o .1, refl, m, l)
 
   pub beginnings-lead : (n b : ℕ) (p : Path) → Mem p (beginnings body n b) → (t : ℕ) × Leads body b p t
   unfolding beginnings
   beginnings-lead (suc n) b p (inl e) = (b, rw e refl)
   beginnings-lead (suc n) b p (inr m) =
-      let (o, i, k) = each-out (exits body b) (λ o. map (λ p. (b, o .0) ∷ p) (beginnings body n (o .1))) p m in
-      let (q, j, e) = map-out (λ (p : Path). (b, o .0) ∷ p) (beginnings body n (o .1)) p k in
-      let (t, l) = beginnings-lead n (o .1) q j in
-      (t, one-more b t o q p i e l)
+      let (u, q, i, on) = steps-out (beginnings body n) b p m in
+      let (t, l) = beginnings-lead n u q i in
+      (t, on t l)
 
   ends : (c : Bool) (b : ℕ) (p : Path) → eqb (suc b) (body .count) ≡ c → Mem p (cond c ([] ∷ []) []) → Leads body b p (lastBlock body)
   ends true b p h (inl e) = let d : suc b ≡ body .count = eqb-true (suc b) (body .count) h in rw e (omega arith)
 
   pub paths-lead : (n b : ℕ) (p : Path) → Mem p (paths body n b) → Leads body b p (lastBlock body)
   unfolding paths
-  paths-lead (suc n) b p m = go (paths-lead n) (mem-append p (cond (eqb (suc b) (body .count)) ([] ∷ []) []) (each (exits body b) (λ o. map (λ p. (b, o .0) ∷ p) (paths body n (o .1)))) m)
+  paths-lead (suc n) b p m = go (paths-lead n) (mem-append p (cond (eqb (suc b) (body .count)) ([] ∷ []) []) (steps (paths body n) b) m)
     where
-      step : ((t : ℕ) (q : Path) → Mem q (paths body n t) → Leads body t q (lastBlock body)) → Mem p (each (exits body b) (λ o. map (λ p. (b, o .0) ∷ p) (paths body n (o .1)))) → Leads body b p (lastBlock body)
-      step h m =
-          let (o, i, k) = each-out (exits body b) (λ o. map (λ p. (b, o .0) ∷ p) (paths body n (o .1))) p m in
-          let (q, j, e) = map-out (λ (p : Path). (b, o .0) ∷ p) (paths body n (o .1)) p k in
-          one-more b (lastBlock body) o q p i e (h (o .1) q j)
-
       go : ((t : ℕ) (q : Path) → Mem q (paths body n t) → Leads body t q (lastBlock body))
-          → Mem p (cond (eqb (suc b) (body .count)) ([] ∷ []) []) ⊎ Mem p (each (exits body b) (λ o. map (λ p. (b, o .0) ∷ p) (paths body n (o .1)))) → Leads body b p (lastBlock body)
+          → Mem p (cond (eqb (suc b) (body .count)) ([] ∷ []) []) ⊎ Mem p (steps (paths body n) b) → Leads body b p (lastBlock body)
       go h (inl m) = ends _ b p refl m
-      go h (inr m) = step h m
+      go h (inr m) = let (u, q, i, on) = steps-out (paths body n) b p m in on (lastBlock body) (h u q i)
 
 module _ (body : Body) (w : Onward body) where
-  abbrev onward : ℕ → ℕ → List Path
-  onward n b = each (exits body b) (λ o. map (λ p. (b, o .0) ∷ p) (paths body n (o .1)))
+  -- a walk is a beginning, and one to the last block is a path
+  pub leads-begin : (n b t : ℕ) (p : Path) → b < body .count → body .count ≤ n + b → Leads body b p t → Mem p (beginnings body n b)
+  unfolding beginnings
+  leads-begin zero b t p h k l = let z : ⊥ = omega arith in absurd z
+  leads-begin (suc n) b t [] h k l = inl refl
+  leads-begin (suc n) b t (x ∷ p) h k l =
+      inr (steps-in body (beginnings body n) b (l .0) x p (l .1) (l .2)
+      (leads-begin n (l .0) t p (w .inside b (x .1, l .0) (l .2)) (omega (arith, w .above b (x .1, l .0) (l .2))) (l .3)))
 
-  -- a walk to the last block is a path
   pub leads-path : (n b : ℕ) (p : Path) → b < body .count → body .count ≤ n + b → Leads body b p (lastBlock body) → Mem p (paths body n b)
   unfolding paths
   leads-path zero b p h k l = let z : ⊥ = omega arith in absurd z
-  leads-path (suc n) b [] h k l = mem-left [] (cond (eqb (suc b) (body .count)) ([] ∷ []) []) (onward n b) (subst (λ (c : Bool). Mem {A = Path} [] (cond c ([] ∷ []) [])) (sym (eq-eqb (suc b) (body .count) (omega arith))) (inl refl))
+  leads-path (suc n) b [] h k l =
+      mem-left [] (cond (eqb (suc b) (body .count)) ([] ∷ []) []) (steps body (paths body n) b)
+      (subst (λ (c : Bool). Mem {A = Path} [] (cond c ([] ∷ []) [])) (sym (eq-eqb (suc b) (body .count) (omega arith))) (inl refl))
   leads-path (suc n) b (x ∷ p) h k l =
-      let o : ℕ × ℕ = (x .1, l .0) in
-      mem-right (x ∷ p) (cond (eqb (suc b) (body .count)) ([] ∷ []) []) (onward n b)
-      (each-in (exits body b) (λ o. map (λ p. (b, o .0) ∷ p) (paths body n (o .1))) o (x ∷ p) (l .2)
-      (subst (λ (y : Edge). Mem (y ∷ p) (map (λ (p : Path). (b, x .1) ∷ p) (paths body n (l .0)))) (λ i. (sym (l .1) i, x .1))
-      (map-in (λ (p : Path). (b, x .1) ∷ p) (paths body n (l .0)) p (leads-path n (l .0) p (w .inside b o (l .2)) (omega (arith, w .above b o (l .2))) (l .3)))))
+      mem-right (x ∷ p) (cond (eqb (suc b) (body .count)) ([] ∷ []) []) (steps body (paths body n) b)
+      (steps-in body (paths body n) b (l .0) x p (l .1) (l .2)
+      (leads-path n (l .0) p (w .inside b (x .1, l .0) (l .2)) (omega (arith, w .above b (x .1, l .0) (l .2))) (l .3)))

@@ -3,7 +3,7 @@
 use mathlib.Core.Path.{_≡_, refl, sym, ap, subst}
 use mathlib.Core.Logic.{_↔_, _⊎_, inl, inr}
 use mathlib.Core.Bool.{Bool, true, false, not, _||_, _&&_}
-use mathlib.Core.List.{[], _∷_, _++_, map}
+use mathlib.Core.List.{[], _∷_, _++_}
 use Prim.Native.Nat.{ℕ, zero, suc, _+_, _≤_, _<_}
 use native.Mathlib.Omega.{arith}
 use borrow.Author.Tests.{eqb-true, eqb-false}
@@ -11,14 +11,13 @@ use lib.Dec.{eqb}
 use lib.ListN.{length}
 use Rattle.laws.specs.Terms.{Mem, any, before}
 use Rattle.laws.specs.Tests.{split, clash, and-out, and-in, or-out, or-in-left, or-in-right, not-out, any-in, any-out, before-in, before-out, is-false}
-use Rattle.laws.specs.Lists.{each-in, map-in}
 use Rattle.form.specs.declared.Body.{Body}
 use Rattle.form.specs.Conflict.{Edge, exits, isTest, condition, touches, opposes, denies, Contradict, Onward, Sound}
 use Rattle.lower_laws.specs.Conditions.{contradict-says}
 use Rattle.theory.specs.Route.{Path, lastBlock, paths, beginnings, at, overwritten, conflict}
 use Rattle.lower_laws.specs.Listed.{opposes-out}
 use Rattle.theory.specs.Steps.{Leads}
-use Rattle.theory.specs.Passes.{paths-lead, leads-path, beginnings-lead}
+use Rattle.theory.specs.Passes.{paths-lead, leads-path, beginnings-lead, leads-begin}
 
 -- ---- conflict
 
@@ -88,16 +87,6 @@ module _ (body : Body) where
 -- ---- beginnings
 
 module _ (body : Body) (w : Onward body) where
-  leads-begin : (n b t : ℕ) (p : Path) → b < body .count → body .count ≤ n + b → Leads body b p t → Mem p (beginnings body n b)
-  unfolding beginnings
-  leads-begin zero b t p h k l = let z : ⊥ = omega arith in absurd z
-  leads-begin (suc n) b t [] h k l = inl refl
-  leads-begin (suc n) b t (x ∷ p) h k l =
-      let o : ℕ × ℕ = (x .1, l .0) in
-      inr (each-in (exits body b) (λ o. map (λ p. (b, o .0) ∷ p) (beginnings body n (o .1))) o (x ∷ p) (l .2)
-      (subst (λ (y : Edge). Mem (y ∷ p) (map (λ (p : Path). (b, x .1) ∷ p) (beginnings body n (l .0)))) (λ i. (sym (l .1) i, x .1))
-      (map-in (λ (p : Path). (b, x .1) ∷ p) (beginnings body n (l .0)) p (leads-begin n (l .0) t p (w .inside b o (l .2)) (omega (arith, w .above b o (l .2))) (l .3)))))
-
   -- from every block some path leads to the end
   go-on : ((b : ℕ) → suc b < body .count → (o : ℕ × ℕ) × Mem o (exits body b)) → (n b : ℕ) → b < body .count → body .count ≤ n + b → (q : Path) × Leads body b q (lastBlock body)
   go-on g zero b h k = let z : ⊥ = omega arith in absurd z
