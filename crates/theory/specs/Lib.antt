@@ -1,4 +1,5 @@
--- Routes, tails, rows and runs. Trusted definitions, in reading order: Route, Row, Run; Example shows them on document 01's body.
+-- Routes, tails, rows and runs. Trusted definitions, in reading order: Route, Row, Run; Example shows them on document
+-- 01's body.
 pub mod Route
 pub mod Row
 pub mod Run

@@ -1,5 +1,6 @@
--- The two machines of document 01's conflicts, pair by pair: the first instance of Ways. A path is ruled out where it has a conflict, and the open edges of a tail are those that
--- the conflict list pairs with a first below. Rests on Forward and Backward.
+-- The two machines of document 01's conflicts, pair by pair: the first instance of Ways. A path is ruled out where it
+-- has a conflict, and the open edges of a tail are those that the conflict list pairs with a first below. Rests on
+-- Forward and Backward.
 use mathlib.Core.Path.{_≡_}
 use mathlib.Core.Bool.{false, _&&_, and-false}
 use mathlib.Core.List.{List}
@@ -27,7 +28,9 @@ module _ (body : Body) (list : List Pair) where
   -- no first is in a block below 0
   pub none-open : (p : Path) → openEdges body list 0 p ≡ noEdges
   unfolding openEdges
-  none-open p = edges-none (body .count) (λ e. bare body p e && listed list 0 e) (λ e. rw (none-listed e) (and-false (bare body p e)))
+  none-open p =
+      edges-none (body .count) (λ e. bare body p e && listed list 0 e)
+      (λ e. rw (none-listed e) (and-false (bare body p e)))
 
   abbrev pub pairwise : Onward body → Listing body list → Ways body (conflict body) (openEdges body list)
   pairwise w L = record {

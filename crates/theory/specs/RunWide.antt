@@ -1,6 +1,6 @@
 -- Runs are as wide as document 01 says: 'A run starts with any i32 values; unknown effects give any i32; open branches
--- go either way. Variables pass to the next iteration as left, or changed from outside.' What Run allows, as theorems: a
--- run that allowed less would refute one of them. Rests on Run.
+-- go either way. Variables pass to the next iteration as left, or changed from outside.' What Run allows, as theorems:
+-- a run that allowed less would refute one of them. Rests on Run.
 use mathlib.Core.Path.{_≡_, refl, sym, ap, subst, _∙_}
 use mathlib.Core.Logic.{_↔_, _⊎_, inl, inr}
 use mathlib.Core.Bool.{Bool, true, false, cond}
@@ -52,8 +52,15 @@ can-set v x fits s =
 pub unknown-gives-any : (a : Effect) → a .how ≡ 0 → (x : ℤ) → SFits w32 x → (s : State)
     → (t : State) × Does a s t × Sets (a .variable) x s t
 unknown-gives-any a unknown x fits s =
-    let (t, e) = can-set (a .variable) x fits s in
-    (t, record { constant = λ h. absurd (let z : _≡_ {A = ℕ} 0 1 = sym unknown ∙ h in omega arith); others = e .others }, e)
+    let (t, e) = can-set (a .variable) x fits s in (
+      t,
+      record {
+        constant = λ h.
+            absurd (let z : _≡_ {A = ℕ} 0 1 = sym unknown ∙ h in omega arith);
+        others = e .others;
+      },
+      e,
+    )
 
 -- after a constant effect the constant can stand
 pub constant-given : (a : Effect) → SFits w32 (a .constant) → (s : State)
@@ -71,7 +78,8 @@ pub in-order : {a : Effect} {l : List Effect} {r s t : State} → Does a r s →
 in-order d r = does d r
 
 -- so in every state the effects of a block can be done
-pub all-done : (l : List Effect) → ((a : Effect) → Mem a l → SFits w32 (a .constant)) → (s : State) → (t : State) × Do l s t
+pub all-done : (l : List Effect) → ((a : Effect) → Mem a l → SFits w32 (a .constant)) → (s : State)
+    → (t : State) × Do l s t
 all-done [] fits s = (s, done)
 all-done (a ∷ l) fits s =
     let (t, d, e) = constant-given a (fits a (inl refl)) s in

@@ -1,4 +1,5 @@
--- The sweep on words for pairs in conflict, as the upper layer cites it: Words at Pairwise. Rests on Words, Pairwise and Listing.
+-- The sweep on words for pairs in conflict, as the upper layer cites it: Words at Pairwise. Rests on Words, Pairwise
+-- and Listing.
 use mathlib.Core.Path.{_≡_, sym, ap, _∙_}
 use mathlib.Core.Bool.{Bool, _&&_}
 use mathlib.Core.List.{List, map, map-map}
@@ -52,19 +53,28 @@ module _ (body : Body) (list : List Pair) (cost : ℕ → ℕ → ℕ) (prefers 
     builtWords R b = fillWords R b (exits body b) (baseWords b)
 
     -- the rows above are those by definition: then the built row is
-    pub sweep-words : Onward body → Listing body list → Choice prefers → body .count ≤ n → (R : ℕ → List (Key × Words)) (b : ℕ) → b < body .count
+    pub sweep-words : Onward body → Listing body list → Choice prefers → body .count ≤ n
+        → (R : ℕ → List (Key × Words)) (b : ℕ) → b < body .count
         → ((t : ℕ) → b < t → t < body .count → R t ≡ rowWords t) → builtWords R b ≡ rowWords b
     unfolding fillWords openTails tails openTailsBy tailsBy
-    sweep-words w L ch enough R b h k = over.sweep-words body w (pairwise body list w L) cost prefers ch n enough R b h k
+    sweep-words w L ch enough R b h k =
+        over.sweep-words body w (pairwise body list w L) cost prefers ch n enough R b h k
 
 -- ---- how large the entries are
 
-module _ (body : Body) (w : Onward body) (list : List Pair) (L : Listing body list) (cost : ℕ → ℕ → ℕ) (most : ℕ → ℕ) (cheap : (b way : ℕ) → b < body .count → cost b way ≤ most b)
+module _ (body : Body) (w : Onward body) (list : List Pair) (L : Listing body list) (cost : ℕ → ℕ → ℕ) (most : ℕ → ℕ)
+    (cheap : (b way : ℕ) → b < body .count → cost b way ≤ most b)
     (prefers : ℕ → ℕ → Bool) (ch : Choice prefers) where
-  opens-lt : (b : ℕ) (p : Path) → (openEdges body list b p .0 < 2 ^ body .count) × (openEdges body list b p .1 < 2 ^ body .count)
+  opens-lt : (b : ℕ) (p : Path)
+      → (openEdges body list b p .0 < 2 ^ body .count) × (openEdges body list b p .1 < 2 ^ body .count)
   unfolding openEdges
-  opens-lt b p = (setOf-lt (body .count) (λ k. bare body p (k, 1) && listed list b (k, 1)), setOf-lt (body .count) (λ k. bare body p (k, 2) && listed list b (k, 2)))
+  opens-lt b p = (
+    setOf-lt (body .count) (λ k. bare body p (k, 1) && listed list b (k, 1)),
+    setOf-lt (body .count)
+        (λ k. bare body p (k, 2) && listed list b (k, 2)),
+  )
 
-  pub entry-fits : (b : ℕ) → b < body .count → (e : Key × Words) → Mem e (rowWords body list cost prefers b) → Fits body most b e
+  pub entry-fits : (b : ℕ) → b < body .count → (e : Key × Words) → Mem e (rowWords body list cost prefers b)
+      → Fits body most b e
   unfolding openTails tails openTailsBy tailsBy
   entry-fits = over.entry-fits body w (pairwise body list w L) opens-lt cost most cheap prefers ch

@@ -1,6 +1,7 @@
--- What the two ways need of a body. A path may be ruled out, a tail has open edges: whatever these two mean, they are decided by two machines (`Ways`), one that reads tails from
--- their end, its key the open edges, and one that reads paths from their start. The paths that are not ruled out, their number and the best of them, as Route and Row have them
--- for pairs in conflict. The first instance is Pairwise. Rests on Machine, Steps and Edges.
+-- What the two ways need of a body. A path may be ruled out, a tail has open edges: whatever these two mean, they are
+-- decided by two machines (`Ways`), one that reads tails from their end, its key the open edges, and one that reads
+-- paths from their start. The paths that are not ruled out, their number and the best of them, as Route and Row have
+-- them for pairs in conflict. The first instance is Pairwise. Rests on Machine, Steps and Edges.
 use mathlib.Core.Path.{_≡_}
 use mathlib.Core.Bool.{Bool, not, cond}
 use mathlib.Core.List.{List, map}
@@ -30,7 +31,8 @@ pub record Ways (body : Body) (ruledOut : Path → Bool) (opens : ℕ → Path �
   pub forward : (cost : ℕ → ℕ → ℕ) (b t : ℕ) (p : Path) → Leads body b p t
       → allowed (onBody body cost forth start) p start ≡ not (ruledOut p)
 
-module _ (body : Body) {ruledOut : Path → Bool} {opens : ℕ → Path → Key} (W : Ways body ruledOut opens) (cost : ℕ → ℕ → ℕ) where
+module _ (body : Body) {ruledOut : Path → Bool} {opens : ℕ → Path → Key} (W : Ways body ruledOut opens)
+    (cost : ℕ → ℕ → ℕ) where
   abbrev pub sweeper : Machine Key
   sweeper = onBody body cost (W .back) noEdges
 
