@@ -6,7 +6,7 @@ use mathlib.Core.Bool.{Bool, true, false, not, cond, _||_, _&&_}
 use mathlib.Core.List.{[], _∷_}
 use mathlib.Core.Option.{Option, none, some}
 use Prim.Native.Nat.{ℕ}
-use Rattle.laws.specs.Tests.{both, clash, Or·sort}
+use Rattle.laws.specs.Tests.{both, clash, is-false, Or·sort}
 use Rattle.form.specs.declared.Body.{Body}
 use Rattle.form.specs.Conflict.{Edge, opposes, denies, Onward}
 use Rattle.theory.specs.Route.{Path, conflict}
@@ -89,7 +89,7 @@ module _ (body : Body) (w : Onward body) where
 
   none-hit : (p : Path) → hit body (has noEdges) p ≡ false
   none-hit p =
-      Rattle.laws.specs.Tests.is-false (hit body (has noEdges) p)
+      is-false (hit body (has noEdges) p)
       (λ k. let (e, s, r) = hit-out body (has noEdges) p k in clash s (has-none e))
 
   -- a path is allowed just where it has no conflict

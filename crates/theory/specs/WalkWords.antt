@@ -81,8 +81,7 @@ module _ (body : Body) (w : Onward body) (cost : ℕ → ℕ → ℕ) where
         c .0 + cost (lastBlock body) 0,
         (
           sym (ap (bitOr (c .1 .0)) (left-nil body 1) ∙ or-nothing (c .1 .0) (f .0)) i,
-          sym
-              (ap (bitOr (c .1 .1)) (left-nil body 2) ∙ or-nothing (c .1 .1) (f .1)) i,
+          sym (ap (bitOr (c .1 .1)) (left-nil body 2) ∙ or-nothing (c .1 .1) (f .1)) i,
         ),
       )
   carry-words b (x ∷ p) c l f =
