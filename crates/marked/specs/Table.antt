@@ -1,5 +1,5 @@
--- The marked cases of document 01, 'The trainer's cases', as one table, and what is claimed of a row. Trusted: definitions only. Rests on the trusted
--- definitions of form and theory.
+-- The marked cases of document 01, 'The trainer's cases', as one table, and what is claimed of a row. Trusted:
+-- definitions only. Rests on the trusted definitions of form and theory.
 use mathlib.Core.List.{List, [], _∷_}
 use mathlib.Core.Option.{some}
 use mathlib.Core.Path.{_≡_}
@@ -31,7 +31,8 @@ Claim (conflicting r c q d) = Contradict (on r c) (on q d)
 Claim (compatible r c q d) = Contradict (on r c) (on q d) → ⊥
 Claim (route form bytes) =
     (judge form ≡ Accepted)
-    × ((best : ℕ × Path) × (routeOn (bodyOf form) (dearest (bodyOf form)) ≡ some best) × (routeBytes (bodyOf form) (best .1) ≡ bytes))
+    × ((best : ℕ × Path) × (routeOn (bodyOf form) (dearest (bodyOf form)) ≡ some best)
+    × (routeBytes (bodyOf form) (best .1) ≡ bytes))
 
 -- Relations: 0 =, 1 ≠, 2 <, 3 ≥, 4 >, 5 ≤
 abbrev pub trainersForm : List ℕ

@@ -1,6 +1,6 @@
 -- The tests and lists of Route read as document 01 words them: a path has a conflict exactly when such a pair stands in
 -- it in order with no effect on the variable between (`conflict-says`), and a beginning is exactly what some route
--- begins with (`beginning-says`). Rests on Route, Steps, Passes and relations.
+-- begins with (`beginning-says`). Rests on Route, Steps, Passes and lower_laws.
 use mathlib.Core.Path.{_≡_, refl, sym, ap, subst}
 use mathlib.Core.Logic.{_↔_, _⊎_, inl, inr}
 use mathlib.Core.Bool.{Bool, true, false, not, _||_, _&&_}
