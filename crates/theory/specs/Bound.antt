@@ -3,18 +3,18 @@
 -- count costs at most the bound of the count and the heaviest weight (`run-bound`). The same whatever rules paths out,
 -- where no iteration takes such a path (`taken-bound`). Rests on RunWide, Steps, Passes, Best and lower_laws.
 use mathlib.Core.Path.{_≡_, refl, sym, ap, subst, _∙_}
-use mathlib.Core.Bool.{Bool, true, false, not, cond, _||_, _&&_}
-use mathlib.Core.List.{List, [], _∷_, map}
+use mathlib.Core.Bool.{Bool, true, false, not, cond, _&&_}
+use mathlib.Core.List.{List, _∷_, map}
 use mathlib.Core.Option.{Option, none, some}
 use Prim.Native.Nat.{ℕ, suc, _+_, _≤_, _<_}
 use native.Mathlib.Nat.{suc-mul, le-trans, mul-le-mul-right}
 use native.Mathlib.Omega.{arith}
-use borrow.Author.Tests.{eqb-true, eqb-false, ltb-false}
+use borrow.Author.Tests.{eqb-true, ltb-false}
 use lib.Dec.{eqb}
 use lib.IntN.{ℤ}
 use lib.ListN.{length}
-use Rattle.laws.specs.Terms.{Mem, anyOf, heavier}
-use Rattle.laws.specs.Tests.{clash, and-out, or-out, or-no, is-false, not-out, or-none}
+use Rattle.laws.specs.Terms.{Mem, heavier}
+use Rattle.laws.specs.Tests.{clash, and-out, or-out, is-false, not-out, or-none}
 use Rattle.laws.specs.Orders.{Choice, heaviest}
 use Rattle.laws.specs.Lists.{map-in, only-in}
 use Rattle.form.specs.declared.Body.{Body}
@@ -34,35 +34,11 @@ use Rattle.theory.specs.Run.Run.{rests, repeats, breaks}
 use Rattle.theory.specs.Passes.{leads-path}
 use Rattle.theory.specs.Ways.{tailsBy, bestBy}
 use Rattle.theory.specs.Best.{best-most}
-use Rattle.theory.specs.RunWide.{goes-on}
+use Rattle.theory.specs.RunWide.{stays, untouched, goes-on}
 use Rattle.lower_laws.specs.Listed.{denies-test, opposes-out}
 use Rattle.theory.specs.Steps.{Leads, wipes, against, hit, hit-nil, hit-cons, conflict-nil, conflict-cons}
 
 -- ---- effects
-
--- what no effect is on stays
-stays : (v : ℕ) {l : List Effect} {s t : State} → Do l s t → anyOf (λ a. eqb (a .variable) v) l ≡ false
-    → t .value v ≡ s .value v
-stays v done h = refl
-stays v (does {a = a} {l = l} d r) h =
-    let (n, k) = or-no (eqb (a .variable) v) _ h in
-    stays v r k ∙ d .others v (λ e. eqb-false (a .variable) v n (sym e))
-
-later-none : (x y : Option Effect) → later x y ≡ none → (x ≡ none) × (y ≡ none)
-later-none x none h = (h, refl)
-later-none x (some a) h = let z : _≡_ {A = ℕ} 0 1 = cc in absurd (omega arith)
-
-untouched : (v : ℕ) (l : List Effect) → lastOn v l ≡ none → anyOf (λ a. eqb (a .variable) v) l ≡ false
-unfolding lastOn
-untouched v [] h = refl
-untouched v (a ∷ l) h =
-    go (eqb (a .variable) v) (later-none (cond (eqb (a .variable) v) (some a) none) (lastOn v l) h) (untouched v l)
-  where
-    go : (c : Bool) → (cond c (some a) none ≡ none) × (lastOn v l ≡ none)
-        → (lastOn v l ≡ none → anyOf (λ a. eqb (a .variable) v) l ≡ false)
-        → (c || anyOf (λ a. eqb (a .variable) v) l) ≡ false
-    go true (p, k) f = let z : _≡_ {A = ℕ} 0 1 = cc in absurd (omega arith)
-    go false (p, k) f = f k
 
 -- the last effect decides
 last-of : (c : Bool) (o : Option Effect) (v : ℕ) (b a : Effect) (l : List Effect) (r s t : State)

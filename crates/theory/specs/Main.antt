@@ -45,8 +45,8 @@ module _ (body : Body) (g : Sound body) (cost : ℕ → ℕ → ℕ) (prefers : 
       ≡ within budget (walked body) (wordsFound body (bestRoute body cost prefers))
   unfolding walked bestRoute tails walkedBy bestBy tailsBy
   walk-answer =
-      walk-words body (g .onward) (pairwise body (conflicts body) (g .onward) (listing body (g .onward))) cost prefers
-      ch
+      walk-words body (g .onward) (pairwise body (conflicts body) (g .onward) (listing body (g .onward)))
+      cost prefers ch
 
 -- a run of no more iterations than the count costs at most the bound of the count and the weight in row 0
 pub run-most : (body : Body) → Sound body → (cost : ℕ → ℕ → ℕ) → ((b way : ℕ) → cost b 0 ≤ cost b way) → (v : Words)
@@ -59,6 +59,6 @@ run-most body g cost least v h count {l} r n =
         → runCost body cost l ≤ boundOf count (v .0)
     by none e f = let z : _≡_ {A = ℕ} 0 1 = cc in absurd (omega arith)
     by (some u) e f =
-        let d : _≡_ {A = Key × Words} (noEdges, wordsOf body u) (noEdges, v) =
-        cc in subst (λ (x : Words). runCost body cost l ≤ boundOf count (x .0)) (ap (λ (e : Key × Words). e .1) d)
+        let d : _≡_ {A = Key × Words} (noEdges, wordsOf body u) (noEdges, v) = cc in
+        subst (λ (x : Words). runCost body cost l ≤ boundOf count (x .0)) (ap (λ (e : Key × Words). e .1) d)
         (run-bound body g cost least u e count r n)

@@ -3,27 +3,28 @@
 -- a run that allowed less would refute one of them. Rests on Run.
 use mathlib.Core.Path.{_≡_, refl, sym, ap, subst, _∙_}
 use mathlib.Core.Logic.{_↔_, _⊎_, inl, inr}
-use mathlib.Core.Bool.{Bool, true, false, cond}
+use mathlib.Core.Bool.{Bool, true, false, cond, _||_}
 use mathlib.Core.List.{List, [], _∷_, _++_}
+use mathlib.Core.Option.{Option, none, some}
 use Prim.Native.Nat.{ℕ, zero, suc, _+_, _≤_, _<_}
 use native.Mathlib.Omega.{arith}
-use borrow.Author.Tests.{ne-eqb}
+use borrow.Author.Tests.{eqb-true, eqb-false, ne-eqb}
 use lib.Dec.{eqb}
 use lib.IntN.{ℤ}
 use mir.Syntax.{w32}
 use mir.Val.{SFits}
-use Rattle.laws.specs.Terms.{Mem}
-use Rattle.laws.specs.Tests.{split, eqb-same}
+use Rattle.laws.specs.Terms.{Mem, anyOf}
+use Rattle.laws.specs.Tests.{split, or-no, eqb-same}
 use Rattle.laws.specs.Sets.{below-or-not}
 use Rattle.form.specs.declared.Body.{Body}
 use Rattle.form.specs.declared.Effect.{Effect}
-use Rattle.form.specs.Conflict.{block, effectsOf, exitsBy, exits, Sound}
+use Rattle.form.specs.Conflict.{block, effectsOf, exitsBy, exits, later, lastOn, Sound}
 use Rattle.theory.specs.Route.{Path, lastBlock, weight}
 use Rattle.theory.specs.Run.{State, Does, Do, holdsAt, Leaves, Iteration, Beginning, Run, runCost}
 use Rattle.theory.specs.Run.Do.{done, does}
 use Rattle.theory.specs.Run.Iteration.{ends, goes}
 use Rattle.theory.specs.Run.Beginning.{stops, passes}
-use Rattle.theory.specs.Run.Run.{repeats, breaks}
+use Rattle.theory.specs.Run.Run.{rests, repeats, breaks}
 
 -- ---- states and effects
 
@@ -52,15 +53,11 @@ can-set v x fits s =
 pub unknown-gives-any : (a : Effect) → a .how ≡ 0 → (x : ℤ) → SFits w32 x → (s : State)
     → (t : State) × Does a s t × Sets (a .variable) x s t
 unknown-gives-any a unknown x fits s =
-    let (t, e) = can-set (a .variable) x fits s in (
-      t,
-      record {
-        constant = λ h.
-            absurd (let z : _≡_ {A = ℕ} 0 1 = sym unknown ∙ h in omega arith);
-        others = e .others;
-      },
-      e,
-    )
+    let (t, e) = can-set (a .variable) x fits s in
+    (t, record { constant = λ h. absurd (known (sym unknown ∙ h)); others = e .others }, e)
+  where
+    known : _≡_ {A = ℕ} 0 1 → ⊥
+    known h = omega arith
 
 -- after a constant effect the constant can stand
 pub constant-given : (a : Effect) → SFits w32 (a .constant) → (s : State)
@@ -85,6 +82,55 @@ all-done (a ∷ l) fits s =
     let (t, d, e) = constant-given a (fits a (inl refl)) s in
     let (u, r) = all-done l (λ e m. fits e (inr m)) t in
     (u, in-order d r)
+
+-- what no effect is on stays
+pub stays : (v : ℕ) {l : List Effect} {s t : State} → Do l s t → anyOf (λ a. eqb (a .variable) v) l ≡ false
+    → t .value v ≡ s .value v
+stays v done h = refl
+stays v (does {a = a} {l = l} d r) h =
+    let (n, k) = or-no (eqb (a .variable) v) _ h in
+    stays v r k ∙ d .others v (λ e. eqb-false (a .variable) v n (sym e))
+
+later-none : (x y : Option Effect) → later x y ≡ none → (x ≡ none) × (y ≡ none)
+later-none x none h = (h, refl)
+later-none x (some a) h = let z : _≡_ {A = ℕ} 0 1 = cc in absurd (omega arith)
+
+pub untouched : (v : ℕ) (l : List Effect) → lastOn v l ≡ none → anyOf (λ a. eqb (a .variable) v) l ≡ false
+unfolding lastOn
+untouched v [] h = refl
+untouched v (a ∷ l) h =
+    go (eqb (a .variable) v) (later-none (cond (eqb (a .variable) v) (some a) none) (lastOn v l) h) (untouched v l)
+  where
+    go : (c : Bool) → (cond c (some a) none ≡ none) × (lastOn v l ≡ none)
+        → (lastOn v l ≡ none → anyOf (λ a. eqb (a .variable) v) l ≡ false)
+        → (c || anyOf (λ a. eqb (a .variable) v) l) ≡ false
+    go true (p, k) f = let z : _≡_ {A = ℕ} 0 1 = cc in absurd (omega arith)
+    go false (p, k) f = f k
+
+-- after effects of which the last on v is unknown, any i32 can stand in v
+pub unknown-stands : (v : ℕ) (l : List Effect) → ((a : Effect) → Mem a l → SFits w32 (a .constant)) → (a : Effect)
+    → lastOn v l ≡ some a → a .how ≡ 0 → (x : ℤ) → SFits w32 x → (s : State) → (t : State) × Do l s t × (t .value v ≡ x)
+unfolding lastOn
+unknown-stands v [] fits a h unknown x small s = let z : _≡_ {A = ℕ} 0 1 = cc in absurd (omega arith)
+unknown-stands v (b ∷ l) fits a h unknown x small s =
+    by (eqb (b .variable) v) (lastOn v l) refl refl h
+    (λ q. unknown-stands v l (λ e m. fits e (inr m)) a q unknown x small)
+  where
+    by : (c : Bool) (o : Option Effect) → eqb (b .variable) v ≡ c → lastOn v l ≡ o
+        → later (cond c (some b) none) o ≡ some a
+        → (lastOn v l ≡ some a → (r : State) → (t : State) × Do l r t × (t .value v ≡ x))
+        → (t : State) × Do (b ∷ l) s t × (t .value v ≡ x)
+    by c (some e) p q h rest =
+        let (r, d, k) = constant-given b (fits b (inl refl)) s in
+        let (t, m, g) = rest (q ∙ h) r in
+        (t, in-order d m, g)
+    by true none p q h rest =
+        let same : b ≡ a = cc in
+        let at : v ≡ b .variable = sym (eqb-true (b .variable) v p) in
+        let (r, d, k) = unknown-gives-any b (ap (λ (e : Effect). e .how) same ∙ unknown) x small s in
+        let (t, m) = all-done l (λ e m. fits e (inr m)) r in
+        (t, in-order d m, stays v m (untouched v l q) ∙ ap (r .value) at ∙ k .here)
+    by false none p q h rest = let z : _≡_ {A = ℕ} 0 1 = cc in absurd (omega arith)
 
 -- ---- leaving a block
 
@@ -144,14 +190,14 @@ module _ (body : Body) (b : ℕ) (s : State) (o : ℕ × ℕ) where
     },
   )
     where
-      other : (w v : ℕ) (x : ℕ × ℕ) → o ≡ x → o .0 ≡ w → x .0 ≡ v → (w ≡ v → ⊥) → ⊥
-      other w v x p q r n = n (sym q ∙ ap (λ (y : ℕ × ℕ). y .0) p ∙ r)
+      way : (x : ℕ × ℕ) → o ≡ x → o .0 ≡ x .0
+      way x p = ap (λ (y : ℕ × ℕ). y .0) p
 
       to : (c : Bool) → holdsAt body b s ≡ c → Mem o (jumping ∷ falling ∷ []) → (holdsAt body b s ≡ true → o .0 ≡ 1)
           → (holdsAt body b s ≡ false → o .0 ≡ 2) → o ≡ cond c jumping falling
       to true h (inl p) j f = p
-      to true h (inr (inl p)) j f = absurd (other 1 2 falling p (j h) refl (λ z. omega arith))
-      to false h (inl p) j f = absurd (other 2 1 jumping p (f h) refl (λ z. omega arith))
+      to true h (inr (inl p)) j f = absurd (let z : _≡_ {A = ℕ} 1 2 = sym (j h) ∙ way falling p in omega arith)
+      to false h (inl p) j f = absurd (let z : _≡_ {A = ℕ} 2 1 = sym (f h) ∙ way jumping p in omega arith)
       to false h (inr (inl p)) j f = p
 
       among : (c : Bool) → o ≡ cond c jumping falling → Mem o (jumping ∷ falling ∷ [])
@@ -232,7 +278,11 @@ module _ (body : Body) (g : Sound body) where
 -- ---- runs
 
 module _ (body : Body) where
-  -- a run goes on with any iteration, from whatever state, to its end or left early
+  -- a run may have no iteration
+  pub no-run : Run body []
+  no-run = rests
+
+  -- it goes on with any iteration, from whatever state, to its end or left early
   pub whole-next : {l : List (Path × ℕ)} → Run body l → {s t : State} {p : Path} → Iteration body 0 s p t
       → Run body ((p, lastBlock body) ∷ l)
   whole-next r i = repeats i r

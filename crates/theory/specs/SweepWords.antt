@@ -1,5 +1,5 @@
--- The sweep on words for pairs in conflict, as the upper layer cites it: Words at Pairwise. Rests on Words, Pairwise
--- and Listing.
+-- The sweep on words for pairs in conflict, as the upper layer cites it: Words at Pairwise. Rests on Words and
+-- Pairwise.
 use mathlib.Core.Path.{_≡_, sym, ap, _∙_}
 use mathlib.Core.Bool.{Bool, _&&_}
 use mathlib.Core.List.{List, map, map-map}
@@ -70,8 +70,7 @@ module _ (body : Body) (w : Onward body) (list : List Pair) (L : Listing body li
   unfolding openEdges
   opens-lt b p = (
     setOf-lt (body .count) (λ k. bare body p (k, 1) && listed list b (k, 1)),
-    setOf-lt (body .count)
-        (λ k. bare body p (k, 2) && listed list b (k, 2)),
+    setOf-lt (body .count) (λ k. bare body p (k, 2) && listed list b (k, 2)),
   )
 
   pub entry-fits : (b : ℕ) → b < body .count → (e : Key × Words) → Mem e (rowWords body list cost prefers b)
