@@ -25,7 +25,7 @@ use Rattle.theory.specs.Row.{highest, crowded}
 use Rattle.theory.specs.Run.{State, Does, Iteration}
 use Rattle.theory.specs.Run.Do.{done, does}
 use Rattle.theory.specs.Run.Iteration.{ends, goes}
-use Rattle.theory.specs.RunWide.{go-left, test-left}
+use Rattle.theory.specs.runs.RunWide.{go-left, test-left}
 
 -- cost, number of effects, jump
 abbrev goesTo : ℕ → ℕ → ℕ → Block

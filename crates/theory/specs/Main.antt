@@ -15,16 +15,17 @@ use Rattle.form.specs.Conflict.{Sound, conflicts}
 use Rattle.theory.specs.Route.{Path, tails, bestRoute, walked, boundOf}
 use Rattle.theory.specs.Row.{Key, found}
 use Rattle.theory.specs.Run.{Run, runCost}
-use Rattle.theory.specs.Machine.{Val}
-use Rattle.theory.specs.Walk.{within, walk, tally}
-use Rattle.theory.specs.Edges.{noEdges}
-use Rattle.theory.specs.Forward.{onMachine}
-use Rattle.theory.specs.Listing.{listing}
-use Rattle.theory.specs.Ways.{tailsBy, bestBy, walkedBy}
-use Rattle.theory.specs.Pairwise.{pairwise}
-use Rattle.theory.specs.Bound.{run-bound}
-use Rattle.theory.specs.SweepWords.{Words, wordsOf, wordsFound, rowWords, row-zero-words, builtWords, sweep-words}
-use Rattle.theory.specs.WalkWords.{advance, finish, nothing, walk-words}
+use Rattle.theory.specs.machines.Machine.{Val}
+use Rattle.theory.specs.machines.Walk.{within, walk, tally}
+use Rattle.theory.specs.pairs.Edges.{noEdges}
+use Rattle.theory.specs.pairs.Forward.{onMachine}
+use Rattle.theory.specs.pairs.Listing.{listing}
+use Rattle.theory.specs.answers.Ways.{tailsBy, bestBy, walkedBy}
+use Rattle.theory.specs.pairs.Pairwise.{pairwise}
+use Rattle.theory.specs.runs.Bound.{run-bound}
+use Rattle.theory.specs.answers.SweepWords.{Words, wordsOf, wordsFound, rowWords, row-zero-words, builtWords}
+use Rattle.theory.specs.answers.SweepWords.{sweep-words}
+use Rattle.theory.specs.answers.WalkWords.{advance, finish, nothing, walk-words}
 
 module _ (body : Body) (g : Sound body) (cost : ℕ → ℕ → ℕ) (prefers : ℕ → ℕ → Bool) (ch : Choice prefers) where
   -- the row built from the rows above is the row by definition

@@ -8,7 +8,7 @@ use native.Mathlib.Omega.{arith}
 use Rattle.form.specs.declared.Body.{Body}
 use Rattle.form.specs.Conflict.{Onward}
 use Rattle.theory.specs.Route.{Path, lastBlock, weight}
-use Rattle.theory.specs.Steps.{Leads}
+use Rattle.theory.specs.pairs.Steps.{Leads}
 
 -- what the blocks below n come to
 unfoldable pub upTo : (ℕ → ℕ) → ℕ → ℕ

@@ -18,8 +18,8 @@ use Rattle.form.specs.Conflict.{Edge, exits, isTest, condition, touches, oppose
 use Rattle.lower_laws.specs.Conditions.{contradict-says}
 use Rattle.theory.specs.Route.{Path, lastBlock, paths, beginnings, at, overwritten, conflict}
 use Rattle.lower_laws.specs.Listed.{opposes-out}
-use Rattle.theory.specs.Steps.{Leads}
-use Rattle.theory.specs.Passes.{paths-lead, leads-path, beginnings-lead, leads-begin}
+use Rattle.theory.specs.pairs.Steps.{Leads}
+use Rattle.theory.specs.machines.Passes.{paths-lead, leads-path, beginnings-lead, leads-begin}
 
 -- ---- conflict
 

@@ -14,7 +14,7 @@ use Rattle.laws.specs.Lists.{each-out, each-in}
 use Rattle.laws.specs.Rows.{Asc, IsRow, row-unique}
 use Rattle.theory.specs.Route.{choose, best}
 use Rattle.theory.specs.Row.{placeKey, addKey, keys, ofKey, found, rowOf}
-use Rattle.theory.specs.Machine.{Val, first, first-order, better, ahead}
+use Rattle.theory.specs.machines.Machine.{Val, first, first-order, better, ahead}
 
 -- ---- the keys
 

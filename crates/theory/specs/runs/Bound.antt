@@ -31,12 +31,12 @@ use Rattle.theory.specs.Run.Do.{done, does}
 use Rattle.theory.specs.Run.Iteration.{ends, goes}
 use Rattle.theory.specs.Run.Beginning.{stops, passes}
 use Rattle.theory.specs.Run.Run.{rests, repeats, breaks}
-use Rattle.theory.specs.Passes.{leads-path}
-use Rattle.theory.specs.Ways.{tailsBy, bestBy}
-use Rattle.theory.specs.Best.{best-most}
-use Rattle.theory.specs.RunWide.{stays, untouched, goes-on}
+use Rattle.theory.specs.machines.Passes.{leads-path}
+use Rattle.theory.specs.answers.Ways.{tailsBy, bestBy}
+use Rattle.theory.specs.answers.Best.{best-most}
+use Rattle.theory.specs.runs.RunWide.{stays, untouched, goes-on}
 use Rattle.lower_laws.specs.Listed.{denies-test, opposes-out}
-use Rattle.theory.specs.Steps.{Leads, wipes, against, hit, hit-nil, hit-cons, conflict-nil, conflict-cons}
+use Rattle.theory.specs.pairs.Steps.{Leads, wipes, against, hit, hit-nil, hit-cons, conflict-nil, conflict-cons}
 
 -- ---- effects
 

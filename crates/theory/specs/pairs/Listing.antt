@@ -11,7 +11,7 @@ use Rattle.form.specs.Conflict.{Holds}
 use Rattle.lower_laws.specs.Conditions.{contradict-says}
 use Rattle.lower_laws.specs.ConflictList.{conflicts-hold}
 use Rattle.lower_laws.specs.Listed.{listed-in, listed-out, denies-test, opposes-out}
-use Rattle.theory.specs.Backward.{Listing}
+use Rattle.theory.specs.pairs.Backward.{Listing}
 
 module _ (body : Body) where
   holds-test : (p : Pair) → Holds body p → isTest body (p .second) ≡ true

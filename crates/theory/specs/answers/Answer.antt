@@ -22,13 +22,14 @@ use Rattle.form.specs.Conflict.{Edge, Onward}
 use Rattle.lower_laws.specs.ConflictList.{exits-ordered}
 use Rattle.theory.specs.Route.{Path, lastBlock, paths, weighed, best}
 use Rattle.theory.specs.Row.{Key, keyBefore, addKey, keys, ofKey, found, rowOf}
-use Rattle.theory.specs.Machine.{Val, better, Machine, readBack, allowed, Forward, passedFrom, built}
-use Rattle.theory.specs.Table.{built-row}
-use Rattle.theory.specs.Walk.{visits, whole, within, carry, carried, walk, tally, given, walk-answer}
-use Rattle.theory.specs.Edges.{noEdges}
-use Rattle.theory.specs.Ways.{Ways, sweeper, walker, tailsBy, bestBy, walkedBy, openTailsBy}
-use Rattle.theory.specs.Passes.{freely, visits-are, visits-begin, wholes, visits-whole, passed-are, paths-lead}
-use Rattle.theory.specs.Passes.{beginnings-lead}
+use Rattle.theory.specs.machines.Machine.{Val, better, Machine, readBack, allowed, Forward, passedFrom, built}
+use Rattle.theory.specs.machines.Table.{built-row}
+use Rattle.theory.specs.machines.Walk.{visits, whole, within, carry, carried, walk, tally, given, walk-answer}
+use Rattle.theory.specs.pairs.Edges.{noEdges}
+use Rattle.theory.specs.answers.Ways.{Ways, sweeper, walker, tailsBy, bestBy, walkedBy, openTailsBy}
+use Rattle.theory.specs.machines.Passes.{freely, visits-are, visits-begin, wholes, visits-whole, passed-are}
+use Rattle.theory.specs.machines.Passes.{paths-lead}
+use Rattle.theory.specs.machines.Passes.{beginnings-lead}
 
 -- ---- a list whose keys are all one: its row has one entry, the best
 

@@ -12,13 +12,14 @@ use Rattle.form.specs.declared.Body.{Body}
 use Rattle.form.specs.Conflict.{Edge, Pair, exits, Onward, listed}
 use Rattle.theory.specs.Route.{Path, conflict, tails, bestRoute}
 use Rattle.theory.specs.Row.{Key, keyBefore, bare, openEdges, found, rowOf, openTails, row}
-use Rattle.theory.specs.Machine.{fill}
-use Rattle.theory.specs.Edges.{noEdges}
-use Rattle.theory.specs.Backward.{Listing, stepBack}
-use Rattle.theory.specs.Ways.{tailsBy, bestBy, openTailsBy}
-use Rattle.theory.specs.Pairwise.{none-open, pairwise}
-use Rattle.theory.specs.Words as over
-pub use Rattle.theory.specs.Words.{Words, wordsOf, onWords, entryFrom, wordsFound, growWords, betterWords, Fits}
+use Rattle.theory.specs.machines.Machine.{fill}
+use Rattle.theory.specs.pairs.Edges.{noEdges}
+use Rattle.theory.specs.pairs.Backward.{Listing, stepBack}
+use Rattle.theory.specs.answers.Ways.{tailsBy, bestBy, openTailsBy}
+use Rattle.theory.specs.pairs.Pairwise.{none-open, pairwise}
+use Rattle.theory.specs.answers.Words as over
+pub use Rattle.theory.specs.answers.Words.{Words, wordsOf, onWords, entryFrom, wordsFound, growWords}
+pub use Rattle.theory.specs.answers.Words.{betterWords, Fits}
 
 module _ (body : Body) (list : List Pair) (cost : ℕ → ℕ → ℕ) (prefers : ℕ → ℕ → Bool) where
   -- the row by definition, on words

@@ -18,10 +18,12 @@ use Rattle.laws.specs.Rows.{Covers, IsRow, covers-refl, covers-trans, covers-ap
 use Rattle.laws.specs.Rows.{asc-insert, dom-refl, put, ext, ext-covers}
 use Rattle.form.specs.Conflict.{Edge}
 use Rattle.theory.specs.Row.{rowOf}
-use Rattle.theory.specs.Machine.{Val, grow, edgeBefore, edge-order, better, Machine, Forward, Ordered, grown}
-use Rattle.theory.specs.Machine.{base, spread, passedFrom, passed-eq, passed-sorted, push, pour, fill, built}
-use Rattle.theory.specs.Machine.{table}
-use Rattle.theory.specs.RowLaws.{better-order, row-is, row-eq}
+use Rattle.theory.specs.machines.Machine.{Val, grow, edgeBefore, edge-order, better, Machine, Forward, Ordered}
+use Rattle.theory.specs.machines.Machine.{grown}
+use Rattle.theory.specs.machines.Machine.{base, spread, passedFrom, passed-eq, passed-sorted, push, pour, fill}
+use Rattle.theory.specs.machines.Machine.{built}
+use Rattle.theory.specs.machines.Machine.{table}
+use Rattle.theory.specs.machines.RowLaws.{better-order, row-is, row-eq}
 
 module _ {K B : Type 0} (lt : K → K → Bool) (bt : B → B → Bool) (oK : Order lt) (oB : Order bt) where
   covers-snoc : (e : K × B) (l : List (K × B)) → Covers bt (l ++ (e ∷ [])) (e ∷ l)

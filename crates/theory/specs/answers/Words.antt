@@ -19,15 +19,15 @@ use Rattle.form.specs.declared.Body.{Body}
 use Rattle.form.specs.Conflict.{Edge, exits, Onward}
 use Rattle.theory.specs.Route.{Path, lastBlock, paths, weighed}
 use Rattle.theory.specs.Row.{Key, keyBefore, found, rowOf, leftBy, Entry}
-use Rattle.theory.specs.Machine.{Val, grow, grown, better, base, push, pour, fill, passed-sorted, ahead}
-use Rattle.theory.specs.RowLaws.{better-order, row-is}
-use Rattle.theory.specs.Steps.{Leads}
-use Rattle.theory.specs.Edges.{noEdges}
-use Rattle.theory.specs.Passes.{paths-lead}
-use Rattle.theory.specs.Ties.{mark, earlier, left-cons, left-nil, earlier-first, left-lt}
+use Rattle.theory.specs.machines.Machine.{Val, grow, grown, better, base, push, pour, fill, passed-sorted, ahead}
+use Rattle.theory.specs.machines.RowLaws.{better-order, row-is}
+use Rattle.theory.specs.pairs.Steps.{Leads}
+use Rattle.theory.specs.pairs.Edges.{noEdges}
+use Rattle.theory.specs.machines.Passes.{paths-lead}
+use Rattle.theory.specs.answers.Ties.{mark, earlier, left-cons, left-nil, earlier-first, left-lt}
 use Rattle.theory.specs.Range.{upTo, weight-most}
-use Rattle.theory.specs.Ways.{Ways, sweeper, tailsBy, bestBy, openTailsBy}
-use Rattle.theory.specs.Answer.{key-order, passed-tails, sweep-row, row-zero}
+use Rattle.theory.specs.answers.Ways.{Ways, sweeper, tailsBy, bestBy, openTailsBy}
+use Rattle.theory.specs.answers.Answer.{key-order, passed-tails, sweep-row, row-zero}
 use Rattle.lower_laws.specs.ConflictList.{exits-ordered}
 
 -- what is kept of a path: its weight, the blocks left by jump or go, the blocks left by fall

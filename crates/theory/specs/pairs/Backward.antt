@@ -13,12 +13,14 @@ use Rattle.form.specs.declared.Body.{Body}
 use Rattle.form.specs.Conflict.{Edge, Pair, exits, isTest, condition, opposes, denies, Onward, Clean, same, listed}
 use Rattle.theory.specs.Route.{Path, conflict}
 use Rattle.theory.specs.Row.{Key, bare, openEdges}
-use Rattle.theory.specs.Machine.{Machine, onBody, thenStep, readBack}
+use Rattle.theory.specs.machines.Machine.{Machine, onBody, thenStep, readBack}
 use Rattle.lower_laws.specs.Listed.{Way, Real, denies-test, same-refl, same-eq}
-use Rattle.theory.specs.Steps.{Leads, wipes, against, real-inside, real-way, hit, hit-of, hit-out, conflict-nil}
-use Rattle.theory.specs.Steps.{conflict-cons, bare-nil, bare-cons, bare-real, bare-clean}
-use Rattle.theory.specs.Edges.{has, edgesOf, anyEdge, noEdges, has-edgesOf, any-edge-in, any-edge-out, edges-same}
-use Rattle.theory.specs.Edges.{edges-none}
+use Rattle.theory.specs.pairs.Steps.{Leads, wipes, against, real-inside, real-way, hit, hit-of, hit-out}
+use Rattle.theory.specs.pairs.Steps.{conflict-nil}
+use Rattle.theory.specs.pairs.Steps.{conflict-cons, bare-nil, bare-cons, bare-real, bare-clean}
+use Rattle.theory.specs.pairs.Edges.{has, edgesOf, anyEdge, noEdges, has-edgesOf, any-edge-in, any-edge-out}
+use Rattle.theory.specs.pairs.Edges.{edges-same}
+use Rattle.theory.specs.pairs.Edges.{edges-none}
 
 -- ---- the machine
 

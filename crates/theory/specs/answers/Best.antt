@@ -12,9 +12,9 @@ use Rattle.laws.specs.Orders.{Choice, asym, ntrans}
 use Rattle.laws.specs.Lists.{map-out, only-out}
 use Rattle.form.specs.declared.Body.{Body}
 use Rattle.theory.specs.Route.{Path, lastBlock, conflict, paths, tails, weight, weighed, choose, best, bestRoute}
-use Rattle.theory.specs.Steps.{Leads}
-use Rattle.theory.specs.Passes.{paths-lead}
-use Rattle.theory.specs.Ways.{tailsBy, bestBy}
+use Rattle.theory.specs.pairs.Steps.{Leads}
+use Rattle.theory.specs.machines.Passes.{paths-lead}
+use Rattle.theory.specs.answers.Ways.{tailsBy, bestBy}
 
 module _ {B : Type 0} (prefers : ℕ → ℕ → Bool) where
   one-of-both : (x : ℕ × B) (o : Option (ℕ × B)) (v : ℕ × B) → choose prefers x o ≡ some v → (v ≡ x) ⊎ (o ≡ some v)

@@ -13,9 +13,9 @@ use Rattle.form.specs.declared.Body.{Body}
 use Rattle.form.specs.Conflict.{Edge}
 use Rattle.theory.specs.Route.{Path, paths, beginnings, weighed, best}
 use Rattle.theory.specs.Row.{Key}
-use Rattle.theory.specs.Machine.{Val, Machine, onBody, readBack, allowed}
-use Rattle.theory.specs.Steps.{Leads}
-use Rattle.theory.specs.Edges.{noEdges}
+use Rattle.theory.specs.machines.Machine.{Val, Machine, onBody, readBack, allowed}
+use Rattle.theory.specs.pairs.Steps.{Leads}
+use Rattle.theory.specs.pairs.Edges.{noEdges}
 
 pub record Ways (body : Body) (ruledOut : Path → Bool) (opens : ℕ → Path → Key) : Type 1 where
   -- a tail is dropped just where it is ruled out, and else its key is its open edges

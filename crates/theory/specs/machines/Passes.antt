@@ -17,9 +17,10 @@ use Rattle.laws.specs.Rows.{put, ext}
 use Rattle.form.specs.declared.Body.{Body}
 use Rattle.form.specs.Conflict.{Edge, exits, Onward}
 use Rattle.theory.specs.Route.{Path, lastBlock, paths, beginnings, weight, weighed}
-use Rattle.theory.specs.Machine.{Val, grow, Machine, onBody, thenStep, readBack, goesOn, allowed, spread, passed}
-use Rattle.theory.specs.Walk.{arrive, extend, ifAllowed, visitBy, visits, whole}
-use Rattle.theory.specs.Steps.{Leads}
+use Rattle.theory.specs.machines.Machine.{Val, grow, Machine, onBody, thenStep, readBack, goesOn, allowed, spread}
+use Rattle.theory.specs.machines.Machine.{passed}
+use Rattle.theory.specs.machines.Walk.{arrive, extend, ifAllowed, visitBy, visits, whole}
+use Rattle.theory.specs.pairs.Steps.{Leads}
 
 -- ---- the visits of any machine, among those of the machine that allows all
 

@@ -19,14 +19,14 @@ use Rattle.form.specs.declared.Body.{Body}
 use Rattle.form.specs.Conflict.{Edge, Onward, same}
 use Rattle.theory.specs.Route.{Path, lastBlock, paths, weight, weighed, choose, best, wayOf, routeBytes}
 use Rattle.theory.specs.Row.{Key, leftBy}
-use Rattle.theory.specs.Machine.{Val}
-use Rattle.theory.specs.Walk.{carry, within, walk, tally}
-use Rattle.theory.specs.Steps.{Leads}
-use Rattle.theory.specs.Passes.{paths-lead}
-use Rattle.theory.specs.Ties.{mark, mark-bit, mark-lt, leaves, left-bit, left-lt, left-nil, way-words}
-use Rattle.theory.specs.Ways.{Ways, walker, tailsBy, bestBy, walkedBy}
-use Rattle.theory.specs.Answer.{walk-routes}
-use Rattle.theory.specs.Words.{Words, wordsOf, wordsFound}
+use Rattle.theory.specs.machines.Machine.{Val}
+use Rattle.theory.specs.machines.Walk.{carry, within, walk, tally}
+use Rattle.theory.specs.pairs.Steps.{Leads}
+use Rattle.theory.specs.machines.Passes.{paths-lead}
+use Rattle.theory.specs.answers.Ties.{mark, mark-bit, mark-lt, leaves, left-bit, left-lt, left-nil, way-words}
+use Rattle.theory.specs.answers.Ways.{Ways, walker, tailsBy, bestBy, walkedBy}
+use Rattle.theory.specs.answers.Answer.{walk-routes}
+use Rattle.theory.specs.answers.Words.{Words, wordsOf, wordsFound}
 
 -- ---- what the walk carries
 

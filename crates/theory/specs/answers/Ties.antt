@@ -21,9 +21,9 @@ use Rattle.form.specs.declared.Body.{Body}
 use Rattle.form.specs.Conflict.{Edge, block, exitsBy, exits, Onward, same}
 use Rattle.theory.specs.Route.{Path, lastBlock, wayOf}
 use Rattle.theory.specs.Row.{leftBy}
-use Rattle.theory.specs.Machine.{edgeBefore, edge-order, first, first-order}
+use Rattle.theory.specs.machines.Machine.{edgeBefore, edge-order, first, first-order}
 use Rattle.lower_laws.specs.Listed.{Way, way-of, same-eq}
-use Rattle.theory.specs.Steps.{Leads}
+use Rattle.theory.specs.pairs.Steps.{Leads}
 
 -- the path leaves block k by the way
 abbrev pub leaves : ℕ → Path → ℕ → Bool

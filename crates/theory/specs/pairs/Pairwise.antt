@@ -13,10 +13,10 @@ use Rattle.form.specs.declared.Body.{Body}
 use Rattle.form.specs.Conflict.{Edge, Pair, Onward, secondOf, same, listed}
 use Rattle.theory.specs.Route.{Path, conflict}
 use Rattle.theory.specs.Row.{Key, bare, openEdges}
-use Rattle.theory.specs.Edges.{noEdges, edges-none}
-use Rattle.theory.specs.Forward.{stepOn, forward}
-use Rattle.theory.specs.Backward.{Listing, stepBack, backward}
-use Rattle.theory.specs.Ways.{Ways}
+use Rattle.theory.specs.pairs.Edges.{noEdges, edges-none}
+use Rattle.theory.specs.pairs.Forward.{stepOn, forward}
+use Rattle.theory.specs.pairs.Backward.{Listing, stepBack, backward}
+use Rattle.theory.specs.answers.Ways.{Ways}
 
 module _ (body : Body) (list : List Pair) where
   none-listed : (e : Edge) → listed list 0 e ≡ false

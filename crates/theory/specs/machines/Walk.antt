@@ -18,7 +18,7 @@ use Rattle.laws.specs.Lists.{only-map}
 use Rattle.laws.specs.Orders.{Choice, ntrans}
 use Rattle.form.specs.Conflict.{Edge}
 use Rattle.theory.specs.Route.{Path, choose, best}
-use Rattle.theory.specs.Machine.{Val, grow, Machine, Forward}
+use Rattle.theory.specs.machines.Machine.{Val, grow, Machine, Forward}
 
 -- ---- what is visited
 

@@ -11,11 +11,11 @@ use Rattle.form.specs.declared.Body.{Body}
 use Rattle.form.specs.Conflict.{Edge, opposes, denies, Onward}
 use Rattle.theory.specs.Route.{Path, conflict}
 use Rattle.theory.specs.Row.{Key}
-use Rattle.theory.specs.Machine.{Machine, onBody, goesOn, allowed}
+use Rattle.theory.specs.machines.Machine.{Machine, onBody, goesOn, allowed}
 use Rattle.lower_laws.specs.Listed.{Real}
-use Rattle.theory.specs.Steps.{Leads, wipes, real-inside, real-way, hit, hit-nil, hit-cons, hit-or, hit-of}
-use Rattle.theory.specs.Steps.{hit-out, conflict-nil, conflict-cons, bare-real}
-use Rattle.theory.specs.Edges.{has, edgesOf, noEdges, has-edgesOf, has-none}
+use Rattle.theory.specs.pairs.Steps.{Leads, wipes, real-inside, real-way, hit, hit-nil, hit-cons, hit-or, hit-of}
+use Rattle.theory.specs.pairs.Steps.{hit-out, conflict-nil, conflict-cons, bare-real}
+use Rattle.theory.specs.pairs.Edges.{has, edgesOf, noEdges, has-edgesOf, has-none}
 
 -- ---- the machine
 
