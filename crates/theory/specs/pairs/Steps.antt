@@ -1,5 +1,5 @@
--- The steps of a body's paths: what a path with one more step in front is, for walks in the graph, conflict, and the edges that a path leaves bare.
--- Rests on Route, Row and form's Conflict, whose tests it hardly looks into.
+-- The steps of a body's paths: what a path with one more step in front is, for walks in the graph, conflict, and the
+-- edges that a path leaves bare. Rests on Route, Row and form's Conflict, whose tests it hardly looks into.
 use mathlib.Core.Path.{_≡_, refl, sym, ap, ap₂, subst, _∙_}
 use mathlib.Core.Bool.{Bool, true, false, not, _||_, _&&_, or-false, and-true, and-or-distrib-right}
 use mathlib.Core.List.{[], _∷_}
@@ -7,7 +7,8 @@ use Prim.Native.Nat.{ℕ, zero, suc, _<_}
 use native.Mathlib.Omega.{arith}
 use lib.ListN.{length}
 use Rattle.laws.specs.Terms.{Mem, any}
-use Rattle.laws.specs.Tests.{four, nor, nor-swap, and-out, and-in, or-no, not-out, any-in, any-out, any-and, any-or, any-same}
+use Rattle.laws.specs.Tests.{four, nor, nor-swap, and-out, and-in, or-no, not-out, any-in, any-out, any-and, any-or}
+use Rattle.laws.specs.Tests.{any-same}
 use Rattle.form.specs.declared.Body.{Body}
 use Rattle.form.specs.Conflict.{Edge, exits, condition, touches, opposes, denies, Onward, Clean, same}
 use Rattle.form.specs.Conflict.Clean.{here, onward}
@@ -57,9 +58,12 @@ module _ (body : Body) where
   unfolding conflict
   conflict-nil = refl
 
-  pub hit-cons : (S : Edge → Bool) (x : Edge) (p : Path) → hit S (x ∷ p) ≡ (S x && not (wipes (x .0) x) || hit (λ e. S e && not (wipes (x .0) e)) p)
+  pub hit-cons : (S : Edge → Bool) (x : Edge) (p : Path)
+      → hit S (x ∷ p) ≡ (S x && not (wipes (x .0) x) || hit (λ e. S e && not (wipes (x .0) e)) p)
   unfolding hit
-  hit-cons S x p = ap₂ _||_ (ap (λ t. S x && not t) (or-false (wipes (x .0) x))) (any-same (length p) _ _ (λ q. nor (S (at p q)) (wipes (x .0) (at p q)) _))
+  hit-cons S x p =
+      ap₂ _||_ (ap (λ t. S x && not t) (or-false (wipes (x .0) x)))
+      (any-same (length p) _ _ (λ q. nor (S (at p q)) (wipes (x .0) (at p q)) _))
 
   pub hit-or : (S R : Edge → Bool) (p : Path) → hit (λ e. S e || R e) p ≡ (hit S p || hit R p)
   unfolding hit
@@ -68,11 +72,13 @@ module _ (body : Body) where
   mix : (c d k a b : Bool) → ((c && k || a) || (d && k || b)) ≡ ((c || d) && k || (a || b))
   mix c d k a b = rw (and-or-distrib-right c d k) (four (c && k) a (d && k) b)
 
-  pub conflict-cons : (x : Edge) (p : Path) → conflict body (x ∷ p) ≡ (denies body (x .0) x || (hit (against x) p || conflict body p))
+  pub conflict-cons : (x : Edge) (p : Path)
+      → conflict body (x ∷ p) ≡ (denies body (x .0) x || (hit (against x) p || conflict body p))
   unfolding conflict hit
   conflict-cons x p =
       ap₂ _||_ (or-false (denies body (x .0) x && true) ∙ and-true (denies body (x .0) x))
-      (any-same (length p) _ _ (λ q. mix (opposes body x (at p q)) (denies body (x .0) (at p q)) _ _ _) ∙ any-or (length p) _ _)
+      (any-same (length p) _ _ (λ q. mix (opposes body x (at p q)) (denies body (x .0) (at p q)) _ _ _)
+      ∙ any-or (length p) _ _)
 
   -- ---- bare edges
 
@@ -80,18 +86,22 @@ module _ (body : Body) where
   unfolding bare
   bare-nil e = refl
 
-  pub bare-cons : (x : Edge) (p : Path) (e : Edge) → bare body (x ∷ p) e ≡ ((same x e || bare body p e) && not (wipes (x .0) e))
+  pub bare-cons : (x : Edge) (p : Path) (e : Edge)
+      → bare body (x ∷ p) e ≡ ((same x e || bare body p e) && not (wipes (x .0) e))
   unfolding bare
   bare-cons x p e =
       ap₂ _||_ (ap (λ t. same x e && not t) (or-false (wipes (x .0) e)))
-      (any-same (length p) _ _ (λ q. nor-swap (same (at p q) e) (wipes (x .0) e) _) ∙ any-and (length p) _ (not (wipes (x .0) e)))
+      (any-same (length p) _ _ (λ q. nor-swap (same (at p q) e) (wipes (x .0) e) _)
+      ∙ any-and (length p) _ (not (wipes (x .0) e)))
       ∙ sym (and-or-distrib-right (same x e) (bare body p e) (not (wipes (x .0) e)))
 
-  bare-at : (p : Path) (q : ℕ) → q < length p → any (suc q) (λ i. wipes (at p i .0) (at p q)) ≡ false → bare body p (at p q) ≡ true
+  bare-at : (p : Path) (q : ℕ) → q < length p → any (suc q) (λ i. wipes (at p i .0) (at p q)) ≡ false
+      → bare body p (at p q) ≡ true
   unfolding bare
   bare-at p q h k = any-in (length p) _ q h (and-in (same-refl (at p q)) (ap not k))
 
-  bare-out : (p : Path) (e : Edge) → bare body p e ≡ true → (q : ℕ) × (q < length p) × ((same (at p q) e ≡ true) × (any (suc q) (λ i. wipes (at p i .0) e) ≡ false))
+  bare-out : (p : Path) (e : Edge) → bare body p e ≡ true
+      → (q : ℕ) × (q < length p) × ((same (at p q) e ≡ true) × (any (suc q) (λ i. wipes (at p i .0) e) ≡ false))
   unfolding bare
   bare-out p e h =
       let (q, b, k) = any-out (length p) _ h in
@@ -99,7 +109,8 @@ module _ (body : Body) where
       (q, b, (s, not-out _ c))
 
   pub bare-real : (b t : ℕ) (p : Path) (e : Edge) → Leads b p t → bare body p e ≡ true → Real body e
-  bare-real b t p e w h = let (q, l, m) = bare-out p e h in subst (Real body) (same-eq (at p q) e (m .0)) (real-at b t p q w l)
+  bare-real b t p e w h =
+      let (q, l, m) = bare-out p e h in subst (Real body) (same-eq (at p q) e (m .0)) (real-at b t p q w l)
 
   -- a bare edge of a set is a hit, and every hit is one
   pub hit-of : (S : Edge → Bool) (p : Path) (e : Edge) → bare body p e ≡ true → S e ≡ true → hit S p ≡ true
@@ -117,14 +128,17 @@ module _ (body : Body) where
 
   -- ---- the way to a bare edge is clean
 
-  cut : (b t : ℕ) (p : Path) (q : ℕ) (v : ℕ) → Leads b p t → q < length p → any (suc q) (λ i. touches body (at p i .0) v) ≡ false → Clean body v b (at p q .0)
+  cut : (b t : ℕ) (p : Path) (q : ℕ) (v : ℕ) → Leads b p t → q < length p
+      → any (suc q) (λ i. touches body (at p i .0) v) ≡ false → Clean body v b (at p q .0)
   cut b t [] q v w h k = let z : ⊥ = omega arith in absurd z
   cut b t (x ∷ p) zero v w h k = rw (← (w .1)) (here (or-no (touches body (x .0) v) _ k .0))
   cut b t (x ∷ p) (suc q) v w h k =
       let (c, d) = or-no (touches body (x .0) v) _ k in
       onward {b = b} (x .1, w .0) (rw (← (w .1)) c) (w .2) (cut (w .0) t p q v (w .3) (omega arith) d)
 
-  pub bare-clean : (b t : ℕ) (p : Path) (e : Edge) → Leads b p t → bare body p e ≡ true → Clean body (condition body e .variable) b (e .0)
+  pub bare-clean : (b t : ℕ) (p : Path) (e : Edge) → Leads b p t → bare body p e ≡ true
+      → Clean body (condition body e .variable) b (e .0)
   bare-clean b t p e w h =
       let (q, l, m) = bare-out p e h in
-      subst (λ (x : Edge). Clean body (condition body e .variable) b (x .0)) (same-eq (at p q) e (m .0)) (cut b t p q (condition body e .variable) w l (m .1))
+      subst (λ (x : Edge). Clean body (condition body e .variable) b (x .0)) (same-eq (at p q) e (m .0))
+      (cut b t p q (condition body e .variable) w l (m .1))

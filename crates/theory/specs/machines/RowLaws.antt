@@ -1,5 +1,6 @@
--- The row by definition (`rowOf`: the different keys, ascending, and of each key the first of the preferred weight) is the ascending row that covers its list,
--- with the preferred weight and then the first path as the better. So whatever is such a row is it. Rests on Row, Machine's order and the laws.
+-- The row by definition (`rowOf`: the different keys, ascending, and of each key the first of the preferred weight) is
+-- the ascending row that covers its list, with the preferred weight and then the first path as the better. So whatever
+-- is such a row is it. Rests on Row, Machine's order and the laws.
 use mathlib.Core.Path.{_≡_, refl, sym, ap, _∙_}
 use mathlib.Core.Logic.{_⊎_, inl, inr}
 use mathlib.Core.Bool.{Bool, true, false, not, cond, _||_}
@@ -13,7 +14,7 @@ use Rattle.laws.specs.Lists.{each-out, each-in}
 use Rattle.laws.specs.Rows.{Asc, IsRow, row-unique}
 use Rattle.theory.specs.Route.{choose, best}
 use Rattle.theory.specs.Row.{placeKey, addKey, keys, ofKey, found, rowOf}
-use Rattle.theory.specs.Machine.{Val, first, first-order, better, ahead}
+use Rattle.theory.specs.machines.Machine.{Val, first, first-order, better, ahead}
 
 -- ---- the keys
 
@@ -97,7 +98,8 @@ module _ {K : Type 0} (lt : K → K → Bool) (oK : Order lt) (prefers : ℕ →
   Picked k l none = (x : K × Val) → Mem x l → x .0 ≡ k → ⊥
   Picked k l (some v) = Ok l (k, v)
 
-  skip : (k : K) (e : K × Val) (l : List (K × Val)) (o : Option Val) → (e .0 ≡ k → ⊥) → Picked k l o → Picked k (e ∷ l) o
+  skip : (k : K) (e : K × Val) (l : List (K × Val)) (o : Option Val) → (e .0 ≡ k → ⊥) → Picked k l o
+      → Picked k (e ∷ l) o
   skip k e l none h g = λ x m c. go x m c
     where
       go : (x : K × Val) → Mem x (e ∷ l) → x .0 ≡ k → ⊥
@@ -110,23 +112,28 @@ module _ {K : Type 0} (lt : K → K → Bool) (oK : Order lt) (prefers : ℕ →
       go x (inr m) c = g .1 x m c
 
   -- e goes before those of l that are no better
-  front : (k : K) (e : K × Val) (l : List (K × Val)) → e .0 ≡ k → ((x : K × Val) → Mem x l → x .0 ≡ k → better prefers (x .1) (e .1) ≡ false) → Ok (e ∷ l) (k, e .1)
+  front : (k : K) (e : K × Val) (l : List (K × Val)) → e .0 ≡ k
+      → ((x : K × Val) → Mem x l → x .0 ≡ k → better prefers (x .1) (e .1) ≡ false) → Ok (e ∷ l) (k, e .1)
   front k e l p h = (inl (λ i. (sym p i, e .1)), go)
     where
       go : (x : K × Val) → Mem x (e ∷ l) → x .0 ≡ k → better prefers (x .1) (e .1) ≡ false
       go x (inl q) c = rw q (better-order prefers ch .irr (e .1))
       go x (inr m) c = h x m c
 
-  meet : (b : Bool) (k : K) (e : K × Val) (u : Val) (l : List (K × Val)) → prefers (u .0) (e .1 .0) ≡ b → e .0 ≡ k → ((x : K × Val) → Mem x l → ahead e x ≡ true)
+  meet : (b : Bool) (k : K) (e : K × Val) (u : Val) (l : List (K × Val)) → prefers (u .0) (e .1 .0) ≡ b → e .0 ≡ k
+      → ((x : K × Val) → Mem x l → ahead e x ≡ true)
       → Ok l (k, u) → Ok (e ∷ l) (k, cond b u (e .1))
   meet true k e u l c p s g = (inr (g .0), go)
     where
       go : (x : K × Val) → Mem x (e ∷ l) → x .0 ≡ k → better prefers (x .1) u ≡ false
       go x (inl q) d = rw (q, c, asym (ch .order) (u .0) (e .1 .0) c)
       go x (inr m) d = g .1 x m d
-  meet false k e u l c p s g = front k e l p (λ x m d. ntrans (better-order prefers ch) (x .1) u (e .1) (g .1 x m d) (behind prefers ch u (e .1) c (asym first-order (e .1 .1) (u .1) (s (k, u) (g .0)))))
+  meet false k e u l c p s g =
+      front k e l p (λ x m d. ntrans (better-order prefers ch) (x .1) u (e .1) (g .1 x m d)
+      (behind prefers ch u (e .1) c (asym first-order (e .1 .1) (u .1) (s (k, u) (g .0)))))
 
-  chosen : (k : K) (e : K × Val) (l : List (K × Val)) (o : Option Val) → e .0 ≡ k → ((x : K × Val) → Mem x l → ahead e x ≡ true) → Picked k l o → Picked k (e ∷ l) (choose prefers (e .1) o)
+  chosen : (k : K) (e : K × Val) (l : List (K × Val)) (o : Option Val) → e .0 ≡ k
+      → ((x : K × Val) → Mem x l → ahead e x ≡ true) → Picked k l o → Picked k (e ∷ l) (choose prefers (e .1) o)
   chosen k e l none p s g = front k e l p (λ x m c. absurd (g x m c))
   chosen k e l (some u) p s g = meet _ k e u l refl p s g
 
@@ -135,7 +142,8 @@ module _ {K : Type 0} (lt : K → K → Bool) (oK : Order lt) (prefers : ℕ →
 
   picked-cons : (a b : Bool) (k : K) (e : K × Val) (l : List (K × Val)) → lt (e .0) k ≡ a → lt k (e .0) ≡ b
       → ((x : K × Val) → Mem x l → ahead e x ≡ true) → Picked k l (best prefers (ofKey lt k l))
-      → Picked k (e ∷ l) (best prefers (map (λ (x : K × Val). x .1) (cond (not (a || b)) (e ∷ only (here k) l) (only (here k) l))))
+      → Picked k (e ∷ l) (best prefers
+      (map (λ (x : K × Val). x .1) (cond (not (a || b)) (e ∷ only (here k) l) (only (here k) l))))
   unfolding best
   picked-cons true b k e l p q s g = skip k e l (best prefers (ofKey lt k l)) (λ c. clash p (rw c (oK .irr k))) g
   picked-cons false true k e l p q s g = skip k e l (best prefers (ofKey lt k l)) (λ c. clash q (rw c (oK .irr k))) g
@@ -148,32 +156,40 @@ module _ {K : Type 0} (lt : K → K → Bool) (oK : Order lt) (prefers : ℕ →
 
   -- ---- all keys
 
-  found-from : (k : K) (o : Option Val) (l : List (K × Val)) → Picked k l o → (y : K × Val) → Mem y (found k o) → (y .0 ≡ k) × Ok l y
+  found-from : (k : K) (o : Option Val) (l : List (K × Val)) → Picked k l o → (y : K × Val) → Mem y (found k o)
+      → (y .0 ≡ k) × Ok l y
   found-from k none l g y m = absurd m
   found-from k (some v) l g y (inl p) = (ap (λ (z : K × Val). z .0) p, rw p g)
 
-  found-to : (k : K) (o : Option Val) (l : List (K × Val)) → Picked k l o → (x : K × Val) → Mem x l → x .0 ≡ k → (d : K × Val) × Mem d (found k o) × (d .0 ≡ k)
+  found-to : (k : K) (o : Option Val) (l : List (K × Val)) → Picked k l o → (x : K × Val) → Mem x l → x .0 ≡ k
+      → (d : K × Val) × Mem d (found k o) × (d .0 ≡ k)
   found-to k none l g x m c = absurd (g x m c)
   found-to k (some v) l g x m c = ((k, v), inl refl, refl)
 
   abbrev gather : List K → List (K × Val) → List (K × Val)
   gather ks l = each ks (λ k. found k (best prefers (ofKey lt k l)))
 
-  gather-from : (ks : List K) (l : List (K × Val)) → Sorted ahead l → (y : K × Val) → Mem y (gather ks l) → Mem (y .0) ks × Ok l y
+  gather-from : (ks : List K) (l : List (K × Val)) → Sorted ahead l → (y : K × Val) → Mem y (gather ks l)
+      → Mem (y .0) ks × Ok l y
   gather-from ks l s y m =
       let (k, n, q) = each-out ks (λ k. found k (best prefers (ofKey lt k l))) y m in
       let (e, o) = found-from k (best prefers (ofKey lt k l)) l (picked k l s) y q in
       (rw e n, o)
 
-  found-asc : (k : K) (o : Option Val) (r : List (K × Val)) → ((y : K × Val) → Mem y r → lt k (y .0) ≡ true) → Asc lt (better prefers) r → Asc lt (better prefers) (found k o ++ r)
+  found-asc : (k : K) (o : Option Val) (r : List (K × Val)) → ((y : K × Val) → Mem y r → lt k (y .0) ≡ true)
+      → Asc lt (better prefers) r → Asc lt (better prefers) (found k o ++ r)
   found-asc k none r h g = g
   found-asc k (some v) r h g = (h, g)
 
-  gather-asc : (ks : List K) (l : List (K × Val)) → Sorted ahead l → Sorted lt ks → Asc lt (better prefers) (gather ks l)
+  gather-asc : (ks : List K) (l : List (K × Val)) → Sorted ahead l → Sorted lt ks
+      → Asc lt (better prefers) (gather ks l)
   gather-asc [] l s h = tt
-  gather-asc (k ∷ ks) l s h = found-asc k (best prefers (ofKey lt k l)) (gather ks l) (λ y m. h .0 (y .0) ((gather-from ks l s y m) .0)) (gather-asc ks l s (h .1))
+  gather-asc (k ∷ ks) l s h =
+      found-asc k (best prefers (ofKey lt k l)) (gather ks l) (λ y m. h .0 (y .0) ((gather-from ks l s y m) .0))
+      (gather-asc ks l s (h .1))
 
-  gather-to : (ks : List K) (l : List (K × Val)) → Sorted ahead l → (x : K × Val) → Mem x l → Mem (x .0) ks → (d : K × Val) × Mem d (gather ks l) × (d .0 ≡ x .0)
+  gather-to : (ks : List K) (l : List (K × Val)) → Sorted ahead l → (x : K × Val) → Mem x l → Mem (x .0) ks
+      → (d : K × Val) × Mem d (gather ks l) × (d .0 ≡ x .0)
   gather-to ks l s x m n =
       let (d, i, q) = found-to (x .0) (best prefers (ofKey lt (x .0) l)) l (picked (x .0) l s) x m refl in
       (d, each-in ks (λ k. found k (best prefers (ofKey lt k l))) (x .0) d n i, q)
@@ -191,4 +207,7 @@ module _ {K : Type 0} (lt : K → K → Bool) (oK : Order lt) (prefers : ℕ →
   }
 
   pub row-eq : (l r : List (K × Val)) → Sorted ahead l → IsRow lt (better prefers) l r → r ≡ rowOf lt prefers l
-  row-eq l r s h = let g = row-is l s in row-unique lt (better prefers) oK (better-order prefers ch) l r (rowOf lt prefers l) (h .asc) (g .asc) (h .covers) (g .covers)
+  row-eq l r s h =
+      let g = row-is l s in
+      row-unique lt (better prefers) oK (better-order prefers ch) l r (rowOf lt prefers l) (h .asc) (g .asc) (h .covers)
+      (g .covers)

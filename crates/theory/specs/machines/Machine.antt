@@ -1,5 +1,7 @@
--- A machine that reads paths from their end: it has a key for the empty path, and a step in front makes a new key or drops the path. For any machine and any
--- costs: the paths that it passes, with key and weight, in order; and the rows built from the last block down by insertion. Rests on Route and the laws.
+-- A machine reads paths: it has a key (or state) to start with, and a step makes a new one or drops the path. Read from
+-- the end (`readBack`) a step goes in front; read from the start (`allowed`) it goes on. For any machine and any costs:
+-- the paths that it passes from their end, with key and weight, in order; and the rows built from the last block down
+-- by insertion. Rests on Route and the laws.
 use mathlib.Core.Path.{_≡_, refl, ap, _∙_}
 use mathlib.Core.Logic.{_⊎_, inl, inr}
 use mathlib.Core.Bool.{Bool, true, false, cond}
@@ -13,7 +15,8 @@ use Rattle.laws.specs.Terms.{Mem, Sorted, pairb}
 use Rattle.laws.specs.Orders.{Order, lexb, lexb-order, lexb-cons, pair-order, ltb-order, next-first}
 use Rattle.laws.specs.Lists.{mem-append, sorted-append}
 use Rattle.laws.specs.Rows.{insert, put, ext, Stepped, mem-ext-out}
-use Rattle.form.specs.Conflict.{Edge}
+use Rattle.form.specs.declared.Body.{Body}
+use Rattle.form.specs.Conflict.{Edge, exits}
 use Rattle.theory.specs.Route.{Path}
 
 -- a weight, and a path
@@ -48,7 +51,37 @@ pub record Machine (K : Type 0) : Type 0 where
   pub cost : ℕ → ℕ → ℕ  -- of a block left by a way; the last by way 0
   pub start : K
 
+-- on the graph of a body
+abbrev pub onBody : {K : Type 0} → Body → (cost : ℕ → ℕ → ℕ) → (Edge → K → Option K) → K → Machine K
+onBody body cost step start = record { count = body .count; outs = exits body; step = step; cost = cost; start = start }
+
 module _ {K : Type 0} (M : Machine K) where
+  -- ---- one path
+
+  abbrev pub thenStep : Edge → Option K → Option K
+  thenStep x none = none
+  thenStep x (some s) = M .step x s
+
+  -- a path read from its end
+  unfoldable pub readBack : Path → Option K
+  readBack [] = some (M .start)
+  readBack (x ∷ p) = thenStep x (readBack p)
+
+  abbrev pub goesOn : Option K → (K → Bool) → Bool
+  goesOn none f = false
+  goesOn (some s) f = f s
+
+  -- every step of the path is allowed, from the state s on
+  unfoldable pub allowed : Path → K → Bool
+  allowed [] s = true
+  allowed (x ∷ p) s = goesOn (M .step x s) (allowed p)
+
+  -- ---- all that are passed from their end
+
+  -- the step x in front, at its cost
+  abbrev pub grown : Edge → Val → Val
+  grown x = grow (M .cost (x .0) (x .1)) x
+
   -- the last block's own path
   abbrev pub base : ℕ → List (K × Val)
   base b = cond (eqb (suc b) (M .count)) ((M .start, (M .cost b 0, [])) ∷ []) []
@@ -56,7 +89,7 @@ module _ {K : Type 0} (M : Machine K) where
   -- the paths by each of the ways os, where R t are those from t
   abbrev pub spread : (ℕ → List (K × Val)) → ℕ → List (ℕ × ℕ) → List (K × Val)
   spread R b [] = []
-  spread R b (o ∷ os) = ext (M .step (b, o .0)) (grow (M .cost b (o .0)) (b, o .0)) (R (o .1)) ++ spread R b os
+  spread R b (o ∷ os) = ext (M .step (b, o .0)) (grown (b, o .0)) (R (o .1)) ++ spread R b os
 
   unfoldable pub passed : ℕ → ℕ → List (K × Val)
   passed zero b = []
@@ -78,20 +111,16 @@ module _ {K B : Type 0} (lt : K → K → Bool) (bt : B → B → Bool) where
   pour s g [] r = r
   pour s g (e ∷ l) r = pour s g l (push (s (e .0)) (g (e .1)) r)
 
-  pub pour-append : (s : K → Option K) (g : B → B) (l m r : List (K × B)) → pour s g (l ++ m) r ≡ pour s g m (pour s g l r)
-  unfolding pour
-  pour-append s g [] m r = refl
-  pour-append s g (e ∷ l) m r = pour-append s g l m (push (s (e .0)) (g (e .1)) r)
+  -- into the row r, the entries of the targets' rows, one way after another, each with its step in front
+  unfoldable pub fill : (Edge → K → Option K) → (Edge → B → B) → (ℕ → List (K × B)) → ℕ → List (ℕ × ℕ) → List (K × B)
+      → List (K × B)
+  fill s g R b [] r = r
+  fill s g R b (o ∷ os) r = fill s g R b os (pour (s (b, o .0)) (g (b, o .0)) (R (o .1)) r)
 
 module _ {K : Type 0} (M : Machine K) (lt : K → K → Bool) (bt : Val → Val → Bool) where
-  -- into the row r, the entries of the targets' rows, one way after another
-  unfoldable pub fill : (ℕ → List (K × Val)) → ℕ → List (ℕ × ℕ) → List (K × Val) → List (K × Val)
-  fill R b [] r = r
-  fill R b (o ∷ os) r = fill R b os (pour lt bt (M .step (b, o .0)) (grow (M .cost b (o .0)) (b, o .0)) (R (o .1)) r)
-
   -- row b, from the rows R of the blocks above
   abbrev pub built : (ℕ → List (K × Val)) → ℕ → List (K × Val)
-  built R b = fill R b (M .outs b) (base M b)
+  built R b = fill lt bt (M .step) (grown M) R b (M .outs b) (base M b)
 
   -- the rows of the last k blocks
   unfoldable pub table : ℕ → List (List (K × Val))
@@ -108,11 +137,13 @@ pub record Forward {K : Type 0} (M : Machine K) : Type 0 where
   pub inside : (b : ℕ) (o : ℕ × ℕ) → Mem o (M .outs b) → o .1 < M .count
 
 module _ {K : Type 0} (M : Machine K) where
-  pub spread-same : (R S : ℕ → List (K × Val)) (b : ℕ) (os : List (ℕ × ℕ)) → ((o : ℕ × ℕ) → Mem o os → R (o .1) ≡ S (o .1)) → spread M R b os ≡ spread M S b os
+  pub spread-same : (R S : ℕ → List (K × Val)) (b : ℕ) (os : List (ℕ × ℕ))
+      → ((o : ℕ × ℕ) → Mem o os → R (o .1) ≡ S (o .1)) → spread M R b os ≡ spread M S b os
   spread-same R S b [] h = refl
   spread-same R S b (o ∷ os) h = rw (h o (inl refl), spread-same R S b os (λ q m. h q (inr m)))
 
-  pub enough : Forward M → (f g b : ℕ) → b < M .count → M .count ≤ f + b → M .count ≤ g + b → passed M f b ≡ passed M g b
+  pub enough : Forward M → (f g b : ℕ) → b < M .count → M .count ≤ f + b → M .count ≤ g + b
+      → passed M f b ≡ passed M g b
   unfolding passed
   enough w zero g b h p q = let z : ⊥ = omega arith in absurd z
   enough w (suc f) zero b h p q = let z : ⊥ = omega arith in absurd z
@@ -120,7 +151,8 @@ module _ {K : Type 0} (M : Machine K) where
       rw (spread-same (λ t. passed M f t) (λ t. passed M g t) b (M .outs b)
       (λ o m. enough w f g (o .1) (w .inside b o m) (omega (arith, w .on b o m)) (omega (arith, w .on b o m))))
 
-  pub passed-eq : Forward M → (b : ℕ) → b < M .count → passedFrom M b ≡ base M b ++ spread M (passedFrom M) b (M .outs b)
+  pub passed-eq : Forward M → (b : ℕ) → b < M .count
+      → passedFrom M b ≡ base M b ++ spread M (passedFrom M) b (M .outs b)
   unfolding passed
   passed-eq w b h = enough w (M .count) (suc (M .count)) b h (omega arith) (omega arith)
 
@@ -131,7 +163,8 @@ module _ {K : Type 0} where
   ahead x y = first (x .1 .1) (y .1 .1)
 
   module _ (s : K → Option K) (c : ℕ) (x : Edge) where
-    put-sorted : (o : Option K) (e : K × Val) (l : List (K × Val)) → ((y : K × Val) → Mem y l → ahead e y ≡ true) → Sorted ahead (ext s (grow c x) l)
+    put-sorted : (o : Option K) (e : K × Val) (l : List (K × Val)) → ((y : K × Val) → Mem y l → ahead e y ≡ true)
+        → Sorted ahead (ext s (grow c x) l)
         → Sorted ahead (put o (grow c x (e .1)) (ext s (grow c x) l))
     put-sorted none e l h g = g
     put-sorted (some k) e l h g = (λ y m. up y (mem-ext-out s (grow c x) l y m), g)
@@ -162,7 +195,8 @@ module _ {K : Type 0} where
         g = grow (M .cost b (o .0)) (b, o .0)
 
         go : (Mem y (spread M R b os) → (q : ℕ × ℕ) × Mem q os × ((p : Path) × (y .1 .1 ≡ (b, q .0) ∷ p)))
-            → Mem y (ext s g (R (o .1))) ⊎ Mem y (spread M R b os) → (q : ℕ × ℕ) × Mem q (o ∷ os) × ((p : Path) × (y .1 .1 ≡ (b, q .0) ∷ p))
+            → Mem y (ext s g (R (o .1))) ⊎ Mem y (spread M R b os)
+            → (q : ℕ × ℕ) × Mem q (o ∷ os) × ((p : Path) × (y .1 .1 ≡ (b, q .0) ∷ p))
         go f (inl n) = (o, inl refl, ext-head s (M .cost b (o .0)) (b, o .0) (R (o .1)) y n)
         go f (inr n) = let (q, k, e) = f n in (q, inr k, e)
 
@@ -172,23 +206,31 @@ module _ {K : Type 0} where
     lower : (b w v : ℕ) → ltb w v ≡ true → edgeBefore (b, w) (b, v) ≡ true
     lower b w v h = rw (ltb-order .irr b, h)
 
-    spread-sorted : (R : ℕ → List (K × Val)) → ((t : ℕ) → Sorted ahead (R t)) → (b : ℕ) (os : List (ℕ × ℕ)) → Sorted (λ o q. ltb (o .0) (q .0)) os → Sorted ahead (spread M R b os)
+    spread-sorted : (R : ℕ → List (K × Val)) → ((t : ℕ) → Sorted ahead (R t)) → (b : ℕ) (os : List (ℕ × ℕ))
+        → Sorted (λ o q. ltb (o .0) (q .0)) os → Sorted ahead (spread M R b os)
     spread-sorted R k b [] h = tt
     spread-sorted R k b (o ∷ os) h =
         sorted-append ahead (ext (M .step (b, o .0)) (grow (M .cost b (o .0)) (b, o .0)) (R (o .1))) (spread M R b os)
-        (ext-sorted (M .step (b, o .0)) (M .cost b (o .0)) (b, o .0) (R (o .1)) (k (o .1))) (spread-sorted R k b os (h .1))
-        (λ x y m n. up x y (ext-head (M .step (b, o .0)) (M .cost b (o .0)) (b, o .0) (R (o .1)) x m) (spread-head R b os y n))
+        (ext-sorted (M .step (b, o .0)) (M .cost b (o .0)) (b, o .0) (R (o .1)) (k (o .1)))
+        (spread-sorted R k b os (h .1))
+        (λ x y m n. up x y (ext-head (M .step (b, o .0)) (M .cost b (o .0)) (b, o .0) (R (o .1)) x m)
+        (spread-head R b os y n))
       where
-        up : (x y : K × Val) → (p : Path) × (x .1 .1 ≡ (b, o .0) ∷ p) → (q : ℕ × ℕ) × Mem q os × ((p : Path) × (y .1 .1 ≡ (b, q .0) ∷ p)) → ahead x y ≡ true
-        up x y (p, e) (q, n, (r, f)) = rw (e, f) (next-first edge-order (b, o .0) (b, q .0) (first p r) (lower b (o .0) (q .0) (h .0 q n)))
+        up : (x y : K × Val) → (p : Path) × (x .1 .1 ≡ (b, o .0) ∷ p)
+            → (q : ℕ × ℕ) × Mem q os × ((p : Path) × (y .1 .1 ≡ (b, q .0) ∷ p)) → ahead x y ≡ true
+        up x y (p, e) (q, n, (r, f)) =
+            rw (e, f) (next-first edge-order (b, o .0) (b, q .0) (first p r) (lower b (o .0) (q .0) (h .0 q n)))
 
     pub passed-sorted : Ordered → (f b : ℕ) → Sorted ahead (passed M f b)
     unfolding passed
     passed-sorted h zero b = tt
-    passed-sorted h (suc f) b = sorted-append ahead (base M b) (spread M (λ t. passed M f t) b (M .outs b)) (one (eqb (suc b) (M .count))) (spread-sorted (λ t. passed M f t) (passed-sorted h f) b (M .outs b) (h b))
+    passed-sorted h (suc f) b =
+        sorted-append ahead (base M b) (spread M (λ t. passed M f t) b (M .outs b)) (one (eqb (suc b) (M .count)))
+        (spread-sorted (λ t. passed M f t) (passed-sorted h f) b (M .outs b) (h b))
         (λ x y m n. up (eqb (suc b) (M .count)) x y m (spread-head (λ t. passed M f t) b (M .outs b) y n))
       where
-        up : (c : Bool) (x y : K × Val) → Mem x (cond c ((M .start, (M .cost b 0, [])) ∷ []) []) → (q : ℕ × ℕ) × Mem q (M .outs b) × ((p : Path) × (y .1 .1 ≡ (b, q .0) ∷ p)) → ahead x y ≡ true
+        up : (c : Bool) (x y : K × Val) → Mem x (cond c ((M .start, (M .cost b 0, [])) ∷ []) [])
+            → (q : ℕ × ℕ) × Mem q (M .outs b) × ((p : Path) × (y .1 .1 ≡ (b, q .0) ∷ p)) → ahead x y ≡ true
         up true x y (inl e) (q, k, (p, f)) = rw (e, f)
 
         one : (c : Bool) → Sorted ahead (cond c ((M .start, (M .cost b 0, [])) ∷ []) [])
