@@ -149,7 +149,7 @@ pub fn form(body: form::Body, out: &mut [u8; 3665]) -> usize
             say(b" bytes\n");
             n
         }
-        Written::Unwritten { number, place } => {
+        Written::Refused { number, place } => {
             refusal(number, place);
             0
         }

@@ -46,7 +46,7 @@ pub struct Body {
 // The writer's answer: how many bytes it wrote, or the refusal's number and place.
 pub enum Written {
     Bytes(usize),
-    Unwritten { number: u32, place: usize },
+    Refused { number: u32, place: usize },
 }
 
 // The reader's answer: on a refusal every number of the body is zero.

@@ -4,10 +4,10 @@ ghost use Prim.Native.Nat.{_+_, _<_, _≤_, _^_};
 ghost use lib.ListN.{length};
 ghost use mir.Syntax.{w32};
 ghost use mir.Val.{toZ};
-ghost use Rattle.form.specs.Form.{when, oneIf, byteAt, number2, number4, signed4, kindOf, kindAt, recordsFrom, stray, someTarget, badCounter, badBlock, badEffect, lowTarget, badEnd, farTarget, badField, badTarget, outOfPlace, overLimit, payloadFault, recordFault, endFault, judgeEnds, judge, counterAt, blockAt, effectAt, ownEffects, zeroBlock, zeroEffect, bodyOf, zeroBody};
+ghost use Rattle.form.specs.Form.{when, oneIf, byteAt, number2, number4, signed4, kindOf, kindAt, recordsFrom, stray, someTarget, badCounter, badBlock, badEffect, lowTarget, badEnd, farTarget, badField, badTarget, outOfPlace, overLimit, payloadFault, recordFault, endFault, judgeEnds, counterAt, blockAt, effectAt, ownEffects, zeroBlock, zeroEffect, bodyOf, zeroBody};
 ghost use Rattle.form.specs.Relation.{eqZ};
 ghost use lib.IntN.{pos};
-ghost use Rattle.form.specs.Answer.{accepted, reading};
+ghost use Rattle.form.specs.Answer.{accepted, Judged, reading};
 use form::Block;
 use form::Body;
 use form::Counter;
@@ -341,7 +341,7 @@ fn judge_ends(s: &[u8], n: usize) -> Verdict
 
 // What the reader says of any bytes: 10 to 19 with its place, or accepted.
 pub fn judge(s: &[u8]) -> Verdict
-    ensures { λ r. ⌜ r ≡ judge (now (s .entry)) ⌝ }
+    ensures { λ r. ⌜ Judged (now (s .entry)) r ⌝ }
 {
     let mut at = 0;
     let mut b = 0;

@@ -19,7 +19,7 @@ use Rattle.form.specs.declared.Block.{Block}
 use Rattle.form.specs.declared.Effect.{Effect}
 use Rattle.form.specs.declared.Kind.{Kind}
 use Rattle.form.specs.Form.{when, byteAt, number2, number4, signed4, unknown, counterRole, blockRole, effectRole, kindOf, lengthAt, kindNumber, kindAt, counterAt, blockAt, effectAt, counterBytes, blockBytes, effectBytes, zeroBlock, zeroEffect}
-use Rattle.form.specs.Records.{next}
+use Rattle.form.specs.Records.{next, next-above}
 use Rattle.roundtrip.specs.Digits.{OfBytes, Each, spread, spread-all, two, four, fits4, digits4, signed-again, zero-fits}
 
 -- ---- the table's numbers, by the role
@@ -250,47 +250,55 @@ block-read k rest h = λ i.
 effect-read : (e : Effect) (rest : List ℕ) → HeldEffect e → effectAt (effectBytes e ++ rest) 0 ≡ e
 effect-read e rest h = λ i. record { variable = e .variable; how = e .how; constant = signed-again (e .constant) (h .constant) i }
 
--- at any place: the kind is found, the rest follows, and the record is the one laid out
+-- at any place: the kind is found, the record is whole, the rest follows
 pub record Found (s : List ℕ) (at number : ℕ) (rest : List ℕ) : Type 0 where
-  pub inside : at < length s
   pub kind : kindAt s at ≡ kindOf number
+  pub size : lengthAt s at ≡ kindAt s at .length
+  pub room : next s at ≤ length s
   pub on : drop (next s at) s ≡ rest
 
 module _ (s : List ℕ) (at : ℕ) (rest : List ℕ) where
   found :
-      (number : ℕ) (bytes : List ℕ) → drop at s ≡ bytes ++ rest → kindNumber (bytes ++ rest) 0 ≡ number → kindOf number .length ≡ length bytes
-      → 0 < length bytes → Found s at number rest
-  found number bytes d k l some =
+      (number : ℕ) (bytes : List ℕ) → drop at s ≡ bytes ++ rest → kindNumber (bytes ++ rest) 0 ≡ number
+      → lengthAt (bytes ++ rest) 0 ≡ kindOf number .length → kindOf number .length ≡ length bytes → 0 < length bytes → Found s at number rest
+  found number bytes d k told l some =
       let kind : kindAt s at ≡ kindOf number =
       ap kindOf (kind-same s (drop at s) at 0 (left s at) ∙ (ap (λ (r : List ℕ). kindNumber r 0) d ∙ k)) in
       let size : kindAt s at .length ≡ length bytes = ap (λ (m : Kind). m .length) kind ∙ l in
       let all : length s - at ≡ length bytes + length rest = sym (length-drop at s) ∙ (ap length d ∙ length-append bytes rest) in
       record {
-        inside = omega (arith, all, some);
         kind = kind;
+        size = length-same s (drop at s) at 0 (left s at) ∙ (ap (λ (r : List ℕ). lengthAt r 0) d ∙ (told ∙ sym (ap (λ (m : Kind). m .length) kind)));
+        room = omega (arith, all, some, size);
         on = ap (λ (n : ℕ). drop (at + n) s) size ∙ (sym (drop-drop (length bytes) at s) ∙ (ap (drop (length bytes)) d ∙ drop-append-seam bytes rest));
       }
 
-  pub counter-found : (c : Counter) → HeldCounter c → drop at s ≡ counterBytes c ++ rest → Found s at 1 rest × (counterAt s at ≡ c)
+  pub counter-found : (c : Counter) → drop at s ≡ counterBytes c ++ rest → Found s at 1 rest
   unfolding kindOf
-  counter-found c h d = (
-    found 1 (counterBytes c) d refl refl (lit< tt),
-    counter-same s (drop at s) at 0 (left s at) ∙ (ap (λ (r : List ℕ). counterAt r 0) d ∙ counter-read c rest h),
-  )
+  counter-found c d = found 1 (counterBytes c) d refl refl refl (lit< tt)
 
-  pub block-found : (k : Block) → HeldBlock k → drop at s ≡ blockBytes k ++ rest → Found s at 2 rest × (blockAt s at (k .effects) ≡ k)
+  pub block-found : (k : Block) → drop at s ≡ blockBytes k ++ rest → Found s at 2 rest
   unfolding kindOf
-  block-found k h d = (
-    found 2 (blockBytes k) d refl refl (lit< tt),
-    block-same s (drop at s) at 0 (left s at) (k .effects) ∙ (ap (λ (r : List ℕ). blockAt r 0 (k .effects)) d ∙ block-read k rest h),
-  )
+  block-found k d = found 2 (blockBytes k) d refl refl refl (lit< tt)
 
-  pub effect-found : (e : Effect) → HeldEffect e → drop at s ≡ effectBytes e ++ rest → Found s at 3 rest × (effectAt s at ≡ e)
+  pub effect-found : (e : Effect) → drop at s ≡ effectBytes e ++ rest → Found s at 3 rest
   unfolding kindOf
-  effect-found e h d = (
-    found 3 (effectBytes e) d refl refl (lit< tt),
-    effect-same s (drop at s) at 0 (left s at) ∙ (ap (λ (r : List ℕ). effectAt r 0) d ∙ effect-read e rest h),
-  )
+  effect-found e d = found 3 (effectBytes e) d refl refl refl (lit< tt)
+
+  -- and where its fields fit their types it is the one laid out
+  pub counter-back : (c : Counter) → HeldCounter c → drop at s ≡ counterBytes c ++ rest → counterAt s at ≡ c
+  counter-back c h d = counter-same s (drop at s) at 0 (left s at) ∙ (ap (λ (r : List ℕ). counterAt r 0) d ∙ counter-read c rest h)
+
+  pub block-back : (k : Block) → HeldBlock k → drop at s ≡ blockBytes k ++ rest → blockAt s at (k .effects) ≡ k
+  block-back k h d =
+      block-same s (drop at s) at 0 (left s at) (k .effects) ∙ (ap (λ (r : List ℕ). blockAt r 0 (k .effects)) d ∙ block-read k rest h)
+
+  pub effect-back : (e : Effect) → HeldEffect e → drop at s ≡ effectBytes e ++ rest → effectAt s at ≡ e
+  effect-back e h d = effect-same s (drop at s) at 0 (left s at) ∙ (ap (λ (r : List ℕ). effectAt r 0) d ∙ effect-read e rest h)
+
+-- so a record is found inside the input
+pub found-inside : {s : List ℕ} {at number : ℕ} {rest : List ℕ} → Found s at number rest → at < length s
+found-inside {s = s} {at = at} f = omega (arith, f .room, next-above s at)
 
 -- ---- what is laid out is bytes
 

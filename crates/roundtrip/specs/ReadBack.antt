@@ -17,7 +17,7 @@ use Rattle.form.specs.Answer.{reading}
 use Rattle.form.specs.Laying.{blocksCounted, counts-known}
 use Rattle.form.specs.Records.{next, records-end, records-step}
 use Rattle.roundtrip.specs.Digits.{OfBytes, Each, each-append, each-byte}
-use Rattle.roundtrip.specs.Kinds.{HeldCounter, HeldBlock, HeldEffect, zero-block, zero-effect, Found, counter-found, block-found, effect-found, counter-each, block-each, effect-each}
+use Rattle.roundtrip.specs.Kinds.{HeldCounter, HeldBlock, HeldEffect, zero-block, zero-effect, Found, found-inside, counter-found, block-found, effect-found, counter-back, block-back, effect-back, counter-each, block-each, effect-each}
 use Rattle.roundtrip.specs.Filled.{effectsCounted}
 use Rattle.roundtrip.specs.Laid.{Laid, none, block, effect, lays}
 use Rattle.roundtrip.specs.Unique.{counts-add, lay-counted}
@@ -49,7 +49,7 @@ module _ (s : List ℕ) where
   -- the records from one that is found on, and its role
   module _ {at number : ℕ} {rest : List ℕ} (f : Found s at number rest) where
     records-of : recordsFrom s at ≡ at ∷ recordsFrom s (next s at)
-    records-of = records-step s at (f .inside)
+    records-of = records-step s at (found-inside f)
 
     role-of : kindAt s at .role ≡ kindOf number .role
     role-of = ap (λ (k : Kind). k .role) (f .kind)
@@ -84,11 +84,11 @@ module _ (s : List ℕ) where
       → ((i : ℕ) → HeldEffect (getD es i zeroEffect)) → (at : ℕ) → drop at s ≡ t → ReadAs s at own ks es
   read-back none hk he at d = nothing-left at d
   read-back (effect {t = t} {own = own} {ks = ks} {es = es} e l) hk he at d =
-      let (f, here) = effect-found s at t e (he 0) d in
-      effect-step at own ks es e t f here (read-back l hk (λ i. he (suc i)) (next s at) (f .on))
+      let f = effect-found s at t e d in
+      effect-step at own ks es e t f (effect-back s at t e (he 0) d) (read-back l hk (λ i. he (suc i)) (next s at) (f .on))
   read-back (block {t = t} {ks = ks} {es = es} k l) hk he at d =
-      let (f, here) = block-found s at t k (hk 0) d in
-      block-step at ks es k t f here (read-back l (λ i. hk (suc i)) he (next s at) (f .on))
+      let f = block-found s at t k d in
+      block-step at ks es k t f (block-back s at t k (hk 0) d) (read-back l (λ i. hk (suc i)) he (next s at) (f .on))
 
 -- ---- what is laid out is bytes
 
@@ -125,27 +125,27 @@ module _ (body : Body) (h : Held body) (fit : countsFit body ≡ true) where
   abbrev rest : List ℕ
   rest = layBlocks (blocksCounted body) (effectsCounted body)
 
-  first : Found (lay body) 0 1 rest × (counterAt (lay body) 0 ≡ body .counter)
-  first = counter-found (lay body) 0 rest (body .counter) (h .counter) (lay-counted body fit)
+  first : Found (lay body) 0 1 rest
+  first = counter-found (lay body) 0 rest (body .counter) (lay-counted body fit)
 
   after : ReadAs (lay body) (next (lay body) 0) 0 (blocksCounted body) (effectsCounted body)
-  after = read-back (lay body) laid blocks-held effects-held (next (lay body) 0) (first .0 .on)
+  after = read-back (lay body) laid blocks-held effects-held (next (lay body) 0) (first .on)
 
   first-role : kindAt (lay body) 0 .role ≡ counterRole
   unfolding kindOf
-  first-role = role-of (lay body) (first .0)
+  first-role = role-of (lay body) first
 
   blocks-back : blocksIn (lay body) (recordsFrom (lay body) 0) ≡ blocksCounted body
   unfolding gather
-  blocks-back = ap (blocksIn (lay body)) (records-of (lay body) (first .0)) ∙ rw first-role (after .blocks)
+  blocks-back = ap (blocksIn (lay body)) (records-of (lay body) first) ∙ rw first-role (after .blocks)
 
   effects-back : effectsIn (lay body) (recordsFrom (lay body) 0) ≡ effectsCounted body
   unfolding gather
-  effects-back = ap (effectsIn (lay body)) (records-of (lay body) (first .0)) ∙ rw first-role (after .effects)
+  effects-back = ap (effectsIn (lay body)) (records-of (lay body) first) ∙ rw first-role (after .effects)
 
   pub body-back : bodyOf (lay body) ≡ upToCounts body
   unfolding upToCounts
-  body-back = λ i. bodyWith (first .1 i) (blocks-back i) (effects-back i)
+  body-back = λ i. bodyWith (counter-back (lay body) 0 rest (body .counter) (h .counter) (lay-counted body fit) i) (blocks-back i) (effects-back i)
 
   -- so the reader answers it, where it accepts what is written
   pub reading-back : judge (lay body) ≡ Accepted → reading (lay body) ≡ record { verdict = Accepted; body = upToCounts body }

@@ -1,9 +1,11 @@
 -- `reader::judge` meets its contract. The loop's invariant: what is left to judge says what the whole does, and no more blocks and effects
 -- are passed than bytes. The measure is what is left of the bytes.
-use mathlib.Core.Path.{_≡_, refl, sym, _∙_}
-use Prim.Native.Nat.{_+_, _≤_, _-_}
+use mathlib.Core.Path.{_≡_, refl, ap, sym, _∙_}
+use Prim.Native.Nat.{ℕ, _+_, _≤_, _-_}
 use native.Mathlib.Omega.{arith}
 use lib.ListN.{length}
+use Rattle.form.specs.declared.Verdict.the-variants.{Refused}
+use Rattle.form.specs.Writing.{judged-as}
 use Rattle.form.specs.Form.{judge, judgeRecords, recordsFrom}
 use Rattle.form.specs.Records.{rest-leave, rest-pass, records-end, end-none, end-some}
 use Rattle.reader.proofs.judge.Statement.{statement}
@@ -22,8 +24,9 @@ loop-holds c = (refl, omega arith)
 returns : tie.Need-returns Inv-loop μ-loop
 returns c =
     let fault = c .before .record-fault .ensures in
-    rw fault
-    (rest-leave _ _ (c .before .before .loop-test .taken) _ _ _ (λ z. c .if1 .taken (fault ∙ z)) (c .before .before .before .loop .inv .0))
+    let left =
+    rest-leave _ _ (c .before .before .loop-test .taken) _ _ _ (λ z. c .if1 .taken (fault ∙ z)) (c .before .before .before .loop .inv .0) in
+    judged-as _ _ (ap (λ (n : ℕ). Refused n (c .before .before .before .loop .at)) fault ∙ left)
 
 loop-again : tie.Need-loop-again Inv-loop μ-loop
 loop-again c =
@@ -44,13 +47,13 @@ loop-again c =
 returns-2 : tie.Need-returns-2 Inv-loop μ-loop
 returns-2 c =
     let whole = rw (records-end _ _ (c .before .loop-test .left)) at (c .before .before .loop .inv .0) in
-    sym (end-none _ _ (c .before .before .loop .e) (c .if2 .taken)) ∙ whole
+    judged-as _ _ (sym (end-none _ _ (c .before .before .loop .e) (c .if2 .taken)) ∙ whole)
 
 returns-3 : tie.Need-returns-3 Inv-loop μ-loop
 returns-3 c =
     let loop = c .before .before .before .loop in
     let whole = rw (records-end _ _ (c .before .before .loop-test .left)) at (loop .inv .0) in
-    c .judge-ends .ensures ∙ (sym (end-some _ _ (loop .e) (c .before .if2 .left) (loop .inv .1 .1 .0)) ∙ whole)
+    judged-as _ _ (c .judge-ends .ensures ∙ (sym (end-some _ _ (loop .e) (c .before .if2 .left) (loop .inv .1 .1 .0)) ∙ whole))
 
 pub judge-spec : {M : Type 1} → statement M
 judge-spec =
