@@ -156,6 +156,27 @@ pub fn form(body: form::Body, out: &mut [u8; 3665]) -> usize
     }
 }
 
+// A case of the writer, lent enough bytes.
+pub fn written(name: &[u8], body: form::Body) {
+    say(name);
+    let mut out = [0u8; 3665];
+    form(body, &mut out);
+}
+
+// A case of the writer, lent 172 bytes.
+pub fn written_short(name: &[u8], body: form::Body) {
+    say(name);
+    say(b"  form:");
+    let mut out = [0u8; 172];
+    match writer::write(body, &mut out) {
+        Written::Bytes(n) => {
+            value(b" ", n as u64);
+            say(b" bytes\n");
+        }
+        Written::Refused { number, place } => refusal(number, place),
+    }
+}
+
 // A case: what is said of it, its form, list, sweep and walk.
 pub fn body(name: &[u8], body: form::Body) {
     say(name);
