@@ -242,8 +242,26 @@ fn wraps() {
 // ---- the writer's refusals, and their order
 
 // Two blocks: the first goes to the target.
-fn two(cost: u32, target: u8) -> Body {
-    bodies::end(bodies::go(ten(), cost, 0, target), 1)
+fn two(start: Body, cost: u32, target: u8) -> Body {
+    bodies::end(bodies::go(start, cost, 0, target), 1)
+}
+
+// The trainer's body, told with another number of effects.
+fn effects_told(total: usize) -> Body {
+    bodies::with_counts(trainers(ten()), 8, total)
+}
+
+fn many_effects() -> Body {
+    bodies::with_counts(bodies::end(bodies::go(ten(), 1, 257, 1), 1), 2, 257)
+}
+
+fn high_variable() -> Body {
+    bodies::end(bodies::set(bodies::go(ten(), 1, 1, 1), 16, 0), 1)
+}
+
+// A target beyond the last block, which does not end.
+fn beyond_and_no_end() -> Body {
+    bodies::go(bodies::go(ten(), 1, 0, 2), 1, 0, 2)
 }
 
 fn refused_counts() {
@@ -251,32 +269,29 @@ fn refused_counts() {
         b"writing 65 blocks\n",
         bodies::with_counts(chain(64), 65, 0),
     );
-    show::written(
-        b"writing 257 effects\n",
-        bodies::with_counts(bodies::end(bodies::go(ten(), 1, 257, 1), 1), 2, 257),
-    );
+    show::written(b"writing 257 effects\n", many_effects());
     show::written(
         b"writing more effects than the blocks say\n",
-        bodies::with_counts(trainers(ten()), 8, 3),
+        effects_told(3),
     );
     show::written(
         b"writing fewer effects than the blocks say\n",
-        bodies::with_counts(trainers(ten()), 8, 1),
+        effects_told(1),
     );
-    show::written(b"writing no block\n", ten());
 }
 
-fn refused_records() {
+fn refused_fields() {
     show::written(
         b"writing a relation above 5\n",
-        trainers(bodies::counted(0, 1, 6, 10)),
+        two(bodies::counted(0, 1, 6, 10), 1, 1),
     );
-    show::written(b"writing a cost above 1,000,000\n", two(1000001, 1));
-    show::written(
-        b"writing a variable above 15\n",
-        bodies::end(bodies::set(bodies::go(ten(), 1, 1, 1), 16, 0), 1),
-    );
-    show::written(b"writing a target not above its block\n", two(1, 0));
+    show::written(b"writing a cost above 1,000,000\n", two(ten(), 1000001, 1));
+    show::written(b"writing a variable above 15\n", high_variable());
+    show::written(b"writing a target not above its block\n", two(ten(), 1, 0));
+}
+
+fn refused_ends() {
+    show::written(b"writing no block\n", ten());
     show::written(
         b"writing two blocks that end\n",
         bodies::end(bodies::end(ten(), 1), 1),
@@ -285,7 +300,10 @@ fn refused_records() {
         b"writing a last block that does not end\n",
         bodies::go(ten(), 1, 0, 1),
     );
-    show::written(b"writing a target beyond the last block\n", two(1, 2));
+    show::written(
+        b"writing a target beyond the last block\n",
+        two(ten(), 1, 2),
+    );
 }
 
 fn refused_in_order() {
@@ -295,19 +313,18 @@ fn refused_in_order() {
     );
     show::written(
         b"writing a block with a bad cost and a bad target: 15 first\n",
-        two(1000001, 0),
+        two(ten(), 1000001, 0),
     );
     show::written(
-        b"writing a bad target, then a bad cost: the first record decides\n",
-        bodies::end(bodies::go(ten(), 1, 0, 0), 1000001),
+        b"writing a target beyond, and a last block that does not end: block by block\n",
+        beyond_and_no_end(),
     );
-    show::written(
-        b"writing a block beyond, then one that does not end: 19 of the first\n",
-        bodies::go(bodies::go(ten(), 1, 0, 2), 1, 0, 2),
-    );
+}
+
+fn refused_room() {
     show::written_short(
         b"writing a bad target into 172 bytes: 16 before 42\n",
-        two(1, 0),
+        two(ten(), 1, 0),
     );
     show::written_short(
         b"writing the trainer's body into 172 bytes\n",
@@ -325,6 +342,8 @@ fn main() {
     tails();
     wraps();
     refused_counts();
-    refused_records();
+    refused_fields();
+    refused_ends();
     refused_in_order();
+    refused_room();
 }
