@@ -83,7 +83,7 @@ fn of_written(written: Written) -> FormAnswer
 {
     match written {
         Written::Bytes(count) => answer(0, count as u64),
-        Written::Unwritten { number, place } => answer(number as u64, place as u64),
+        Written::Refused { number, place } => answer(number as u64, place as u64),
     }
 }
 

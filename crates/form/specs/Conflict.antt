@@ -1,5 +1,5 @@
 -- Conflicts, after document 01, 'Conflicts and routes': the blocks, effects and edges of a body, conditions, clean paths and the conflict list.
--- Trusted: definitions only. Rests on Relation (when a number meets a relation) and on the laws' Terms.
+-- Trusted: definitions only. Rests on Relation (when a number meets a relation), on Form's zeroBlock and on the laws' Terms.
 -- Two tests stand beside the statement that they decide (`contradict` and Contradict, `clean` and Clean). The crate lower_laws proves that they say the same
 -- (Conditions, ConflictList), and that the list holds exactly what Holds says, in order.
 use mathlib.Core.Path.{_≡_}
@@ -17,12 +17,13 @@ use Rattle.laws.specs.Terms.{Mem, each, anyOf, range, pairb}
 use Rattle.form.specs.declared.Body.{Body}
 use Rattle.form.specs.declared.Block.{Block}
 use Rattle.form.specs.declared.Effect.{Effect}
+use Rattle.form.specs.Form.{zeroBlock}
 use Rattle.form.specs.Relation.{meets, opposite}
 
 -- ---- blocks, effects and edges
 
 abbrev pub noBlock : Block
-noBlock = record { cost = 0; ending = 0; jump = 0; fall = 0; variable = 0; relation = 0; constant = pos 0; effects = 0 }
+noBlock = zeroBlock
 
 -- Block b. What stands past the count is no part of the body.
 unfoldable pub block : Body → ℕ → Block

@@ -22,7 +22,7 @@ use Rattle.form.specs.declared.Verdict.the-variants.{Accepted, Refused}
 use Rattle.form.specs.Answer.{accepted}
 use Rattle.form.specs.Conflict.{block, effectsBelow, effectsOf, touches, lastOn, exits, isTest, condition, contradict, opposes, denies}
 use Rattle.form.specs.Counter.{Count}
-use Rattle.form.specs.Form.{recordLength, startsFor, recordsFrom, badField, badTarget, outOfPlace, overLimit, payloadFault, recordFault, endFault, judgeEnds, judgeRecords, judge, ownEffects, gather, fill, bodyOf}
+use Rattle.form.specs.Form.{kindOf, startsFor, recordsFrom, badField, badTarget, outOfPlace, overLimit, payloadFault, recordFault, endFault, judgeEnds, judgeRecords, judge, ownEffects, gather, fill, bodyOf}
 use Rattle.lower_laws.specs.Conditions.{contradict-says}
 use Rattle.lower_laws.specs.Loops.{countOf, count-found}
 use Rattle.lower_laws.specs.Steps.{later, first, within, found-none, found-some}
@@ -113,7 +113,7 @@ every-out (x ∷ l) h c (inl e) = subst Claim (sym e) (law x (and-out (right x) 
 every-out (x ∷ l) h c (inr m) = every-out l (and-out (right x) (every l) h .1) c m
 
 all-right : every table ≡ true
-unfolding every right fits alike bytesOf countOf within first later contradict recordLength startsFor recordsFrom badField badTarget outOfPlace overLimit payloadFault recordFault endFault judgeEnds judgeRecords judge ownEffects gather fill block effectsBelow effectsOf touches lastOn exits isTest condition opposes denies paths conflict tails weight best bestRoute wayOf routeBytes
+unfolding every right fits alike bytesOf countOf within first later contradict kindOf startsFor recordsFrom badField badTarget outOfPlace overLimit payloadFault recordFault endFault judgeEnds judgeRecords judge ownEffects gather fill block effectsBelow effectsOf touches lastOn exits isTest condition opposes denies paths conflict tails weight best bestRoute wayOf routeBytes
 all-right = refl
 
 pub marked : (c : Case) → Mem c table → Claim c
