@@ -66,7 +66,7 @@ listed-only : (l t w : Bool) → (l ≡ true → t ≡ true) → (l && not (t &&
 listed-only false t w h = sym (and-false (not w))
 listed-only true t w h = rw (h refl) (sym (and-true (not w)))
 
-module _ (body : Body) (g : Sound body) (plan : List ℕ) (fits : (k : ℕ) → getD plan k 0 < 2 ^ 64) 
+module _ (body : Body) (g : Sound body) (plan : List ℕ) (fits : (k : ℕ) → getD plan k 0 < 2 ^ 64)
     (cost : ℕ → ℕ → ℕ) (planned : Planned body cost plan) (b way side : ℕ) (inside : b < body .count) (v : IsWay way) (u : IsWay side) where
   abbrev words : Side
   words = sideOf plan b way side
@@ -168,7 +168,7 @@ module _ (body : Body) (g : Sound body) (plan : List ℕ) (fits : (k : ℕ) → 
 
 -- ---- the step is the machine's
 
-module _ (body : Body) (g : Sound body) (plan : List ℕ) (fits : (k : ℕ) → getD plan k 0 < 2 ^ 64) 
+module _ (body : Body) (g : Sound body) (plan : List ℕ) (fits : (k : ℕ) → getD plan k 0 < 2 ^ 64)
     (cost : ℕ → ℕ → ℕ) (planned : Planned body cost plan) (b way : ℕ) (inside : b < body .count) (v : IsWay way) where
   abbrev jump-side : Side
   jump-side = sideOf plan b way 1

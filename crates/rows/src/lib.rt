@@ -78,7 +78,10 @@ fn better(one: Way, other: Way) -> bool
     if one.weight < other.weight {
         return false;
     }
-    words::has(one.jumped, u64::trailing_zeros(one.jumped ^ other.jumped) as usize)
+    words::has(
+        one.jumped,
+        u64::trailing_zeros(one.jumped ^ other.jumped) as usize,
+    )
 }
 
 // The first of the held entries whose key is not before this one.

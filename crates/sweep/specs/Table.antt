@@ -197,7 +197,6 @@ filled-is r m h =
     whole : (m : ℕ) → length r + m ≡ 64 → m + (64 - m) ≡ 64
     whole m h = omega arith
 
-
 map-replicate : {A B : Type 0} (f : A → B) (n : ℕ) (x : A) → map f (replicate n x) ≡ replicate n (f x)
 map-replicate f zero x = refl
 map-replicate f (suc n) x = ap (λ l. f x ∷ l) (map-replicate f n x)

@@ -40,11 +40,14 @@ loop-again c =
     let turn = read .before .before in
     let at-loop = turn .before in
     let a = at-loop .before .before .args in
-    let l = at-loop .loop in ((
-      subst (λ (m : List ℕ). Moving (a .row .now) m (l .i - 1) (a .to)) (sym (put .put-entry .ensures ∙ ap (λ e. entryPut (l .row) (l .i) (tupleOf e)) (read .entry-at .ensures)))
-          (moving-more (a .row .now) (l .row) (l .i) (a .to) (omega (arith, turn .loop-test .taken)) (l .inv .1 .0) (omega (arith, l .inv .1 .1, at-loop .before .before .pre .1)) (l .inv .0 .0)),
-      omega arith,
-    ), (omega arith, put .put-entry .kept .0 ∙ l .inv .1 .1))
+    let l = at-loop .loop in (
+      (
+        subst (λ (m : List ℕ). Moving (a .row .now) m (l .i - 1) (a .to)) (sym (put .put-entry .ensures ∙ ap (λ e. entryPut (l .row) (l .i) (tupleOf e)) (read .entry-at .ensures)))
+            (moving-more (a .row .now) (l .row) (l .i) (a .to) (omega (arith, turn .loop-test .taken)) (l .inv .1 .0) (omega (arith, l .inv .1 .1, at-loop .before .before .pre .1)) (l .inv .0 .0)),
+        omega arith,
+      ),
+      (omega arith, put .put-entry .kept .0 ∙ l .inv .1 .1),
+    )
 
 same-length : tie.Need-same-length Inv-loop μ-loop
 same-length c = c .before .loop .inv .1 .1
