@@ -12,12 +12,12 @@ use Rattle.form.specs.declared.Body.{Body}
 use Rattle.form.specs.declared.Verdict.{Verdict}
 use Rattle.form.specs.declared.Verdict.the-variants.{Accepted, Refused}
 use Rattle.form.specs.declared.Written.{Written}
-use Rattle.form.specs.declared.Written.the-variants.{Bytes as WrittenBytes, Unwritten}
+use Rattle.form.specs.declared.Written.the-variants.{Bytes as WrittenBytes, Refused as Unwritten}
 use Rattle.form.specs.Form.{when, judge, bodyOf, lay, countsFit}
 use Rattle.form.specs.Answer.{written, asJudged as asWritten, heldAfter as heldForm}
 use Rattle.form.specs.Conflict.{conflictBytes}
 use Rattle.listing.specs.declared.Listed.{Listed}
-use Rattle.listing.specs.declared.Listed.the-variants.{Bytes, Unlisted}
+use Rattle.listing.specs.declared.Listed.the-variants.{Bytes, Refused as Unlisted}
 use Rattle.listing.specs.Answer.{listing, asJudged, heldAfter}
 
 -- bytes that stand first are there

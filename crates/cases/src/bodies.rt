@@ -81,6 +81,20 @@ fn with_effect(body: Body, effect: Effect) -> Body {
     }
 }
 
+// The body with other counts than it was put together with.
+pub fn with_counts(body: Body, count: usize, total: usize) -> Body {
+    let counter = body.counter;
+    let blocks = body.blocks;
+    let effects = body.effects;
+    Body {
+        counter,
+        count,
+        blocks,
+        total,
+        effects,
+    }
+}
+
 // The last block.
 pub fn end(body: Body, cost: u32) -> Body {
     let block = Block {

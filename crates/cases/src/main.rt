@@ -1,5 +1,5 @@
 // The trainer's cases of document 01 that are not marked, and 'Where trainees go wrong', a case each in which the wrong answer would be printed otherwise.
-// A line for each answer, with all its numbers. The marked cases are proved (crate marked).
+// A line for each answer, with all its numbers; last the writer's refusals, one by one and in their order. The marked cases are proved (crate marked).
 mod bodies;
 mod show;
 
@@ -239,6 +239,99 @@ fn wraps() {
     );
 }
 
+// ---- the writer's refusals, and their order
+
+// Two blocks: the first goes to the target.
+fn two(start: Body, cost: u32, target: u8) -> Body {
+    bodies::end(bodies::go(start, cost, 0, target), 1)
+}
+
+// The trainer's body, told with another number of effects.
+fn effects_told(total: usize) -> Body {
+    bodies::with_counts(trainers(ten()), 8, total)
+}
+
+fn many_effects() -> Body {
+    bodies::with_counts(bodies::end(bodies::go(ten(), 1, 257, 1), 1), 2, 257)
+}
+
+fn high_variable() -> Body {
+    bodies::end(bodies::set(bodies::go(ten(), 1, 1, 1), 16, 0), 1)
+}
+
+// A target beyond the last block, which does not end.
+fn beyond_and_no_end() -> Body {
+    bodies::go(bodies::go(ten(), 1, 0, 2), 1, 0, 2)
+}
+
+fn refused_counts() {
+    show::written(
+        b"writing 65 blocks\n",
+        bodies::with_counts(chain(64), 65, 0),
+    );
+    show::written(b"writing 257 effects\n", many_effects());
+    show::written(
+        b"writing more effects than the blocks say\n",
+        effects_told(3),
+    );
+    show::written(
+        b"writing fewer effects than the blocks say\n",
+        effects_told(1),
+    );
+}
+
+fn refused_fields() {
+    show::written(
+        b"writing a relation above 5\n",
+        two(bodies::counted(0, 1, 6, 10), 1, 1),
+    );
+    show::written(b"writing a cost above 1,000,000\n", two(ten(), 1000001, 1));
+    show::written(b"writing a variable above 15\n", high_variable());
+    show::written(b"writing a target not above its block\n", two(ten(), 1, 0));
+}
+
+fn refused_ends() {
+    show::written(b"writing no block\n", ten());
+    show::written(
+        b"writing two blocks that end\n",
+        bodies::end(bodies::end(ten(), 1), 1),
+    );
+    show::written(
+        b"writing a last block that does not end\n",
+        bodies::go(ten(), 1, 0, 1),
+    );
+    show::written(
+        b"writing a target beyond the last block\n",
+        two(ten(), 1, 2),
+    );
+}
+
+fn refused_in_order() {
+    show::written(
+        b"writing 65 blocks, and a relation above 5: 14 first\n",
+        bodies::with_counts(bodies::counted(0, 1, 6, 10), 65, 0),
+    );
+    show::written(
+        b"writing a block with a bad cost and a bad target: 15 first\n",
+        two(ten(), 1000001, 0),
+    );
+    show::written(
+        b"writing a target beyond, and a last block that does not end: block by block\n",
+        beyond_and_no_end(),
+    );
+}
+
+fn refused_room() {
+    show::written_short(
+        b"writing a bad target into 172 bytes: 16 before 42\n",
+        two(ten(), 1, 0),
+    );
+    show::written_short(
+        b"writing the trainer's body into 172 bytes\n",
+        trainers(ten()),
+    );
+}
+
 fn main() {
     counts();
     trainers_cases();
@@ -248,4 +341,9 @@ fn main() {
     reals();
     tails();
     wraps();
+    refused_counts();
+    refused_fields();
+    refused_ends();
+    refused_in_order();
+    refused_room();
 }

@@ -92,7 +92,7 @@ pub fn list(form: &[u8]) {
     let mut out = [0u8; 64];
     match listing::conflicts(form, &mut out) {
         Listed::Bytes(n) => entries(&out[..n]),
-        Listed::Unlisted { number, place } => refusal(number, place),
+        Listed::Refused { number, place } => refusal(number, place),
     }
 }
 
@@ -149,10 +149,31 @@ pub fn form(body: form::Body, out: &mut [u8; 3665]) -> usize
             say(b" bytes\n");
             n
         }
-        Written::Unwritten { number, place } => {
+        Written::Refused { number, place } => {
             refusal(number, place);
             0
         }
+    }
+}
+
+// A case of the writer, lent enough bytes.
+pub fn written(name: &[u8], body: form::Body) {
+    say(name);
+    let mut out = [0u8; 3665];
+    form(body, &mut out);
+}
+
+// A case of the writer, lent 172 bytes.
+pub fn written_short(name: &[u8], body: form::Body) {
+    say(name);
+    say(b"  form:");
+    let mut out = [0u8; 172];
+    match writer::write(body, &mut out) {
+        Written::Bytes(n) => {
+            value(b" ", n as u64);
+            say(b" bytes\n");
+        }
+        Written::Refused { number, place } => refusal(number, place),
     }
 }
 

@@ -83,7 +83,7 @@ fn of_written(written: Written) -> FormAnswer
 {
     match written {
         Written::Bytes(count) => answer(0, count as u64),
-        Written::Unwritten { number, place } => answer(number as u64, place as u64),
+        Written::Refused { number, place } => answer(number as u64, place as u64),
     }
 }
 
@@ -149,7 +149,7 @@ fn of_listed(listed: Listed) -> ListNumbers
             place: 0,
             entries: (count / 5) as u64,
         },
-        Listed::Unlisted { number, place } => ListNumbers {
+        Listed::Refused { number, place } => ListNumbers {
             number: number as u64,
             place: place as u64,
             entries: 0,

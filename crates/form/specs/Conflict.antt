@@ -1,6 +1,6 @@
 -- Conflicts, after document 01, 'Conflicts and routes': the blocks, effects and edges of a body, conditions, clean paths and the conflict list.
--- Trusted: definitions only. Rests on Relation (when a number meets a relation) and on the laws' Terms.
--- Two tests stand beside the statement that they decide (`contradict` and Contradict, `clean` and Clean). The crate relations proves that they say the same
+-- Trusted: definitions only. Rests on Relation (when a number meets a relation), on Form's zeroBlock and on the laws' Terms.
+-- Two tests stand beside the statement that they decide (`contradict` and Contradict, `clean` and Clean). The crate lower_laws proves that they say the same
 -- (Conditions, ConflictList), and that the list holds exactly what Holds says, in order.
 use mathlib.Core.Path.{_≡_}
 use mathlib.Core.Logic.{_⊎_}
@@ -17,12 +17,13 @@ use Rattle.laws.specs.Terms.{Mem, each, anyOf, range, pairb}
 use Rattle.form.specs.declared.Body.{Body}
 use Rattle.form.specs.declared.Block.{Block}
 use Rattle.form.specs.declared.Effect.{Effect}
+use Rattle.form.specs.Form.{zeroBlock}
 use Rattle.form.specs.Relation.{meets, opposite}
 
 -- ---- blocks, effects and edges
 
 abbrev pub noBlock : Block
-noBlock = record { cost = 0; ending = 0; jump = 0; fall = 0; variable = 0; relation = 0; constant = pos 0; effects = 0 }
+noBlock = zeroBlock
 
 -- Block b. What stands past the count is no part of the body.
 unfoldable pub block : Body → ℕ → Block
@@ -65,6 +66,11 @@ exitsBy (suc (suc (suc (suc above)))) jump fall = []
 -- The exits of block b: each way with its target, jump before fall.
 unfoldable pub exits : Body → ℕ → List (ℕ × ℕ)
 exits body b = exitsBy (block body b .ending) (block body b .jump) (block body b .fall)
+
+-- Where a way leads; 64, no block's number, where there is no such way.
+abbrev pub wayTo : (way : ℕ) → List (ℕ × ℕ) → ℕ
+wayTo way [] = 64
+wayTo way (o ∷ l) = cond (eqb (o .0) way) (o .1) (wayTo way l)
 
 -- Every target is above its block and is a block.
 pub record Onward (body : Body) : Type 0 where

@@ -6,28 +6,38 @@ use mathlib.Core.Path.{_≡_, refl, ap, sym, _∙_}
 use Prim.Native.Nat.{ℕ, zero, suc, _+_, _≤_, _<_}
 use native.Mathlib.Omega.{arith}
 use borrow.Author.Tests.{lt-ltb, le-ltb, ltb-true, ltb-false, ne-eqb, eq-eqb}
-use lib.Dec.{ltb, eqb}
+use lib.Dec.{ltb, eqb, lit<, lit≤}
 use lib.ListN.{length}
+use Rattle.form.specs.declared.Kind.{Kind}
 use Rattle.form.specs.declared.Verdict.{Verdict}
 use Rattle.form.specs.declared.Verdict.the-variants.{Refused}
-use Rattle.form.specs.Form.{when, kindAt, isBlock, isEffect, oneIf, judged, recordLength, startsFor, recordsFrom, recordFault, endFault, judgeEnds, judgeRecords, ownEffects}
+use Rattle.form.specs.Form.{when, kindNumber, unknown, counterRole, blockRole, effectRole, kindOf, kindAt, isBlock, isEffect, oneIf, judged, startsFor, recordsFrom, recordFault, endFault, judgeEnds, judgeRecords, ownEffects}
 
 -- where the record at `at` ends
 abbrev pub next : List ℕ → ℕ → ℕ
-next s at = at + recordLength (kindAt s at)
+next s at = at + kindAt s at .length
 
-pub recordLength-pos : (kind : ℕ) → 0 < recordLength kind
-unfolding recordLength
-recordLength-pos kind = cases (eqb kind 3) (eqb kind 1) (eqb kind 2)
+-- a record of any kind has a byte, and at most 17
+abbrev pub Sized : Kind → Type 0
+Sized k = (0 < k .length) × (k .length ≤ 17)
+
+pub sized : (number : ℕ) → Sized (kindOf number)
+unfolding kindOf
+sized number = by (eqb number 1) (eqb number 2) (eqb number 3)
   where
-    cases : (a b c : Bool) → 0 < when a 10 (when (mathlib.Core.Bool._||_ b c) 17 4)
-    cases true b c = omega arith
-    cases false true c = omega arith
-    cases false false true = omega arith
-    cases false false false = omega arith
+    by :
+        (a b c : Bool)
+        → Sized
+        (when a (record { length = 17; role = counterRole })
+        (when b (record { length = 17; role = blockRole })
+        (when c (record { length = 10; role = effectRole }) (record { length = 4; role = unknown }))))
+    by true b c = (lit< tt, lit≤ tt)
+    by false true c = (lit< tt, lit≤ tt)
+    by false false true = (lit< tt, lit≤ tt)
+    by false false false = (lit< tt, lit≤ tt)
 
 pub next-above : (s : List ℕ) (at : ℕ) → at < next s at
-next-above s at = omega (arith, recordLength-pos (kindAt s at))
+next-above s at = omega (arith, sized (kindNumber s at) .0)
 
 starts-end : (most : ℕ) (s : List ℕ) (at : ℕ) → length s ≤ at → startsFor most s at ≡ []
 unfolding startsFor
@@ -126,18 +136,14 @@ unfolding judgeRecords
 end-some s b e n h = rw (ne-eqb b 0 n, ne-eqb (length s) 0 (λ z. n (omega arith)))
 
 -- A block's effects: one more at an effect, none at any other record and at the end.
-kind-length : (s : List ℕ) (at : ℕ) → kindAt s at ≡ 3 → next s at ≡ at + 10
-unfolding recordLength
-kind-length s at e = rw e
-
 module _ (s : List ℕ) (at : ℕ) (h : at < length s) where
-  pub own-more : kindAt s at ≡ 3 → ownEffects s (recordsFrom s at) ≡ suc (ownEffects s (recordsFrom s (at + 10)))
+  pub own-more : kindAt s at .role ≡ effectRole → ownEffects s (recordsFrom s at) ≡ suc (ownEffects s (recordsFrom s (next s at)))
   unfolding ownEffects
-  own-more e = rw (records-step s at h, eq-eqb (kindAt s at) 3 e) (ap (λ (n : ℕ). suc (ownEffects s (recordsFrom s n))) (kind-length s at e))
+  own-more e = rw (records-step s at h, eq-eqb (kindAt s at .role) effectRole e)
 
-  pub own-none : (kindAt s at ≡ 3 → ⊥) → ownEffects s (recordsFrom s at) ≡ 0
+  pub own-none : (kindAt s at .role ≡ effectRole → ⊥) → ownEffects s (recordsFrom s at) ≡ 0
   unfolding ownEffects
-  own-none n = rw (records-step s at h, ne-eqb (kindAt s at) 3 n)
+  own-none n = rw (records-step s at h, ne-eqb (kindAt s at .role) effectRole n)
 
 pub own-end : (s : List ℕ) (at : ℕ) → length s ≤ at → ownEffects s (recordsFrom s at) ≡ 0
 unfolding ownEffects

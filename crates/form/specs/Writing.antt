@@ -1,4 +1,4 @@
--- Laws of the writer's answer, one for each way that it ends. Rests on Form and Answer.
+-- Laws of the reader's and the writer's answers: the numbers follow the case; and one law for each way that the writer ends. Rests on Form and Answer.
 use mathlib.Core.Bool.{Bool, true, false, true≢false, false≢true}
 use mathlib.Core.List.{List, _++_}
 use mathlib.Core.Path.{_≡_, refl, ap, sym, _∙_}
@@ -12,9 +12,17 @@ use Rattle.form.specs.declared.Body.{Body}
 use Rattle.form.specs.declared.Verdict.{Verdict}
 use Rattle.form.specs.declared.Verdict.the-variants.{Accepted, Refused}
 use Rattle.form.specs.declared.Written.{Written}
-use Rattle.form.specs.declared.Written.the-variants.{Bytes, Unwritten}
+use Rattle.form.specs.declared.Written.the-variants.{Bytes, Refused as Unwritten}
 use Rattle.form.specs.Form.{when, judge, lay, countsFit}
-use Rattle.form.specs.Answer.{accepted, asJudged, written, heldAfter}
+use Rattle.form.specs.Answer.{said, accepted, Judged, asJudged, saidWritten, written, heldAfter, Wrote}
+
+pub judged-as : (s : List ℕ) (v : Verdict) → v ≡ judge s → Judged s v
+judged-as s v e = (e, ap said e)
+
+pub wrote-as :
+    (body : Body) (out : List ℕ) (r : Written) (held : List ℕ) → r ≡ written body (length out) → held ≡ heldAfter r (lay body) out
+    → Wrote body out r held
+wrote-as body out r held e h = (e, (h, ap saidWritten e))
 
 pub counts-refused : (body : Body) (room : ℕ) → countsFit body ≡ false → Unwritten 14 0 ≡ written body room
 counts-refused body room e = rw e

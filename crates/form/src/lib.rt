@@ -1,5 +1,11 @@
 // The order form of document 01: the structs of a body, by value, and the cases of the reader's and the writer's answers. No function: the reader is the crate reader, the
 // writer the crate writer. What each record means, and what is answered, is in specs/.
+// A kind of record: the length of its records, and what they are: 0 nothing that the form knows, 1 the counter, 2 a block, 3 an effect.
+pub struct Kind {
+    pub length: u32,
+    pub role: u32,
+}
+
 // The counter: what a kind 1 record holds.
 pub struct Counter {
     pub initial: i32,
@@ -40,7 +46,7 @@ pub struct Body {
 // The writer's answer: how many bytes it wrote, or the refusal's number and place.
 pub enum Written {
     Bytes(usize),
-    Unwritten { number: u32, place: usize },
+    Refused { number: u32, place: usize },
 }
 
 // The reader's answer: on a refusal every number of the body is zero.

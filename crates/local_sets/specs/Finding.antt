@@ -12,40 +12,20 @@ use Rattle.laws.specs.Tests.{clash, split, eqb-swap}
 use Rattle.words.specs.Tabled.{tabled}
 use Rattle.words.specs.Filled.{Told, same-bits, set-bits, told-as, told-tabled, told-rows}
 use Rattle.form.specs.declared.Body.{Body}
-use Rattle.form.specs.declared.Block.{Block}
-use Rattle.form.specs.Conflict.{block, effectsBelow, effectsOf, touches, lastOn, refuses, exitsBy, exits, isTest, condition, contradict, opposes, denies}
+use Rattle.form.specs.Conflict.{block, effectsBelow, effectsOf, touches, lastOn, refuses, exits, wayTo, isTest, condition, contradict, opposes, denies}
 use Rattle.lower_laws.specs.PairTest.{shares, contradict-is}
-use Rattle.lower_laws.specs.Joined.{above-three, target, jumpOf, fallOf, past-64, no-test, denies-test, opposes-test}
+use Rattle.lower_laws.specs.Endings.{ways-lead}
+use Rattle.lower_laws.specs.Joined.{past-64, no-test, denies-test, opposes-test}
 use Rattle.local_sets.specs.declared.Tests.{Tests}
-use Rattle.local_sets.specs.declared.Targets.{Targets}
+use Rattle.sets.specs.declared.Targets.{Targets}
 use Rattle.local_sets.specs.declared.EffectRows.{EffectRows}
 use Rattle.local_sets.specs.declared.Opposition.{Opposition}
-use Rattle.local_sets.specs.Local.{wayTo, localOf}
+use Rattle.sets.specs.Local.{localOf}
 use Rattle.local_sets.specs.Parts.{blockIn, withParts, TestsOf, TargetsOf, TouchedBy, conditionAt, DeniedBy, AlikeAt, OpposedAt, EffectRowsOf, OpposedOf}
 
 -- bits of a row b that has a word for each block
 abbrev pub Bits : (ℕ → ℕ → Bool) → ℕ → ℕ → Type 0
 Bits f b x = (k : ℕ) → bit x k ≡ f b k
-
-pub way-jump : (k : Block) → wayTo 1 (exitsBy (k .ending) (k .jump) (k .fall)) ≡ jumpOf k
-way-jump k = go (k .ending) (k .jump) (k .fall)
-  where
-    go : (e j f : ℕ) → wayTo 1 (exitsBy e j f) ≡ target (ltb 0 e && ltb e 4) j
-    go zero j f = refl
-    go (suc zero) j f = refl
-    go (suc (suc zero)) j f = refl
-    go (suc (suc (suc zero))) j f = refl
-    go (suc (suc (suc (suc m)))) j f = rw (above-three m (ltb 0 (suc (suc (suc (suc m))))))
-
-pub way-fall : (k : Block) → wayTo 2 (exitsBy (k .ending) (k .jump) (k .fall)) ≡ fallOf k
-way-fall k = go (k .ending) (k .jump) (k .fall)
-  where
-    go : (e j f : ℕ) → wayTo 2 (exitsBy e j f) ≡ target (ltb 1 e && ltb e 4) f
-    go zero j f = refl
-    go (suc zero) j f = refl
-    go (suc (suc zero)) j f = refl
-    go (suc (suc (suc zero))) j f = refl
-    go (suc (suc (suc (suc m)))) j f = rw (above-three m (ltb 1 (suc (suc (suc (suc m))))))
 
 module _ (body : Body) where
   abbrev parts : Body
@@ -124,8 +104,8 @@ module _ (body : Body) where
     pub targets-are : to ≡ record { jump = tabled 64 (λ b. wayTo 1 (exits body b)); fall = tabled 64 (λ b. wayTo 2 (exits body b)) }
     unfolding exits block
     targets-are = λ i. record {
-      jump = told-tabled (λ b. wayTo 1 (exits body b)) 64 64 (to .jump) (told-as 64 _ 64 _ (to .jump) (led .jumps) (λ b x h p. p ∙ sym (way-jump (block body b)))) i;
-      fall = told-tabled (λ b. wayTo 2 (exits body b)) 64 64 (to .fall) (told-as 64 _ 64 _ (to .fall) (led .falls) (λ b x h p. p ∙ sym (way-fall (block body b)))) i;
+      jump = told-tabled (λ b. wayTo 1 (exits body b)) 64 64 (to .jump) (told-as 64 _ 64 _ (to .jump) (led .jumps) (λ b x h p. p ∙ sym (ways-lead (block body b .ending) (block body b .jump) (block body b .fall) .0))) i;
+      fall = told-tabled (λ b. wayTo 2 (exits body b)) 64 64 (to .fall) (told-as 64 _ 64 _ (to .fall) (led .falls) (λ b x h p. p ∙ sym (ways-lead (block body b .ending) (block body b .jump) (block body b .fall) .1))) i;
     }
 
   -- ---- all of it

@@ -3,7 +3,7 @@ use mathlib.Core.Path.{_≡_}
 use mathlib.Core.Bool.{not, _&&_}
 use mathlib.Core.List.{List}
 use Prim.Native.Nat.{ℕ, _<_}
-use lib.Dec.{eqb}
+use lib.Dec.{eqb, ltb}
 use lib.IntN.{ℤ, pos}
 use lib.ListN.{length, getD, take}
 use Rattle.laws.specs.Terms.{bit, anyOf}
@@ -15,9 +15,9 @@ use Rattle.form.specs.Form.{zeroCounter}
 use Rattle.form.specs.Relation.{opposite}
 use Rattle.form.specs.Conflict.{Condition, noBlock, block, effectsOf, refuses, lastOn}
 use Rattle.lower_laws.specs.PairTest.{shares}
-use Rattle.lower_laws.specs.Joined.{jumpOf, fallOf}
+use Rattle.lower_laws.specs.Endings.{target}
 use Rattle.local_sets.specs.declared.Tests.{Tests}
-use Rattle.local_sets.specs.declared.Targets.{Targets}
+use Rattle.sets.specs.declared.Targets.{Targets}
 use Rattle.local_sets.specs.declared.Hits.{Hits}
 use Rattle.local_sets.specs.declared.EffectRows.{EffectRows}
 use Rattle.local_sets.specs.declared.Opposition.{Opposition}
@@ -25,6 +25,13 @@ use Rattle.local_sets.specs.declared.Opposition.{Opposition}
 -- block k of the first `count` of a list
 abbrev pub blockIn : ℕ → List Block → ℕ → Block
 blockIn count blocks k = getD (take count blocks) k noBlock
+
+-- where a block's jump and fall lead
+abbrev pub jumpOf : Block → ℕ
+jumpOf k = target (ltb 0 (k .ending) && ltb (k .ending) 4) (k .jump)
+
+abbrev pub fallOf : Block → ℕ
+fallOf k = target (ltb 1 (k .ending) && ltb (k .ending) 4) (k .fall)
 
 -- a body with these parts; its counter and its number of effects do not matter for conflicts
 abbrev pub withParts : ℕ → List Block → List Effect → Body

@@ -1,5 +1,5 @@
-// What a body's blocks, effects and edges say by themselves, as sets of edges in words: the part of its conflicts that looks at no path. The meaning is in specs/Local.antt and in
-// form's Conflict.
+// What a body's blocks, effects and edges say by themselves, as sets of edges in words: the part of its conflicts that looks at no path. The meaning is in sets'
+// Local and in form's Conflict.
 ghost use mathlib.Core.Path.{_≡_};
 ghost use mathlib.Core.Bool.{_&&_, not};
 ghost use Prim.Native.Nat.{ℕ, _+_, _≤_};
@@ -13,9 +13,9 @@ ghost use Rattle.form.specs.Relation.{opposite};
 ghost use Rattle.lower_laws.specs.PairTest.{shares};
 ghost use Rattle.words.specs.Filled.{Told};
 ghost use Rattle.lower_laws.specs.Effects.{Within};
-ghost use Rattle.lower_laws.specs.Joined.{target};
+ghost use Rattle.lower_laws.specs.Endings.{target};
 ghost use Rattle.local_sets.specs.Parts.{blockIn, withParts, TestsOf, TargetsOf, Sizes, HitsOf, EffectRowsOf, OnVariable, AlikeAt, OpposedAt, OpposedOf};
-ghost use Rattle.local_sets.specs.Local.{localOf};
+ghost use Rattle.sets.specs.Local.{localOf};
 
 // The tests of a body: which blocks they are, and each block's variable, relation by jump and by fall, and constant.
 struct Tests {
@@ -24,30 +24,6 @@ struct Tests {
     jump: [u8; 64],
     fall: [u8; 64],
     constant: [i32; 64],
-}
-
-// Where each block's jump and fall lead; 64 where it has no such way.
-pub struct Targets {
-    pub jump: [usize; 64],
-    pub fall: [usize; 64],
-}
-
-// For each block a set of edges: those by jump and those by fall.
-pub struct Edges {
-    pub jump: [u64; 64],
-    pub fall: [u64; 64],
-}
-
-// What a body's blocks, effects and edges say by themselves, with no path looked at: which blocks are tests; where each block's ways lead; the tests that it touches; the edges that
-// its effects deny; the edges that its edge by jump, and that by fall, conflicts with; and its variable.
-pub struct Local {
-    pub tests: u64,
-    pub targets: Targets,
-    pub touched: [u64; 64],
-    pub denied: Edges,
-    pub jumping: Edges,
-    pub falling: Edges,
-    pub variable: [u8; 64],
 }
 
 // The tests that a block touches, and those whose jump or fall edge its last effect on their variable denies.
@@ -124,7 +100,7 @@ fn target(has: bool, to: u8) -> usize
     if has { to as usize } else { 64 }
 }
 
-fn targets_of(count: usize, blocks: [form::Block; 64]) -> Targets
+fn targets_of(count: usize, blocks: [form::Block; 64]) -> sets::Targets
     ensures { λ r. ⌜ TargetsOf (blockIn count blocks) r ⌝ }
 {
     let mut jump = [64; 64];
@@ -136,7 +112,7 @@ fn targets_of(count: usize, blocks: [form::Block; 64]) -> Targets
         fall[i] = target((1 < k.ending) & (k.ending < 4), k.fall);
         i += 1;
     }
-    Targets { jump, fall }
+    sets::Targets { jump, fall }
 }
 
 // For each variable, the tests on it.
@@ -306,8 +282,8 @@ fn opposed_rows(alike: &[u64], first: &[u8], second: &[u8], constant: &[i32]) ->
 
 // The edges that each test's edges by jump, and those by fall, conflict with.
 struct Opposition {
-    jumping: Edges,
-    falling: Edges,
+    jumping: sets::Edges,
+    falling: sets::Edges,
 }
 
 fn oppose(tests: u64, variable: &[u8], jump: &[u8], fall: &[u8], constant: &[i32]) -> Opposition
@@ -319,8 +295,8 @@ fn oppose(tests: u64, variable: &[u8], jump: &[u8], fall: &[u8], constant: &[i32
     let b = opposed_rows(&alike, jump, fall, constant);
     let c = opposed_rows(&alike, fall, jump, constant);
     let d = opposed_rows(&alike, fall, fall, constant);
-    let jumping = Edges { jump: a, fall: b };
-    let falling = Edges { jump: c, fall: d };
+    let jumping = sets::Edges { jump: a, fall: b };
+    let falling = sets::Edges { jump: c, fall: d };
     Opposition { jumping, falling }
 }
 
@@ -360,7 +336,7 @@ fn effects_by(
     )
 }
 
-pub fn local_of(body: form::Body) -> Local
+pub fn local_of(body: form::Body) -> sets::Local
     ensures { λ r. ⌜ r ≡ localOf body ⌝ }
 {
     let blocks = body.blocks;
@@ -374,13 +350,13 @@ pub fn local_of(body: form::Body) -> Local
     let deny_jump = e.jump;
     let deny_fall = e.fall;
     let touched = e.touched;
-    let denied = Edges {
+    let denied = sets::Edges {
         jump: deny_jump,
         fall: deny_fall,
     };
     let tests = t.tests;
     let variable = t.variable;
-    Local {
+    sets::Local {
         tests,
         targets,
         touched,

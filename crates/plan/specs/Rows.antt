@@ -1,4 +1,4 @@
--- A list whose rows are those of a sound body's sets is its plan. Rests on Plan, and on conflict's Sets, whose words the rows are.
+-- A list whose rows are those of a sound body's sets is its plan. Rests on Plan, and on sets' Found, whose words the rows are.
 use mathlib.Core.Bool.{Bool, true, false, cond, _&&_}
 use mathlib.Core.List.{List, [], _∷_, _++_}
 use mathlib.Core.Logic.{inl, inr, ⊎-elim}
@@ -14,13 +14,13 @@ use Rattle.laws.specs.Tests.{split, clash, and-out}
 use Rattle.laws.specs.Sets.{bit-setOf, bit-setOf-beyond, below-or-not}
 use Rattle.form.specs.declared.Block.{Block}
 use Rattle.form.specs.declared.Body.{Body}
-use Rattle.form.specs.Conflict.{Edge, Pair, block, exitsBy, exits, isTest, condition, touches, opposes, denies, listed, conflicts, same, secondOf, Holds, Sound, noBlock}
+use Rattle.form.specs.Conflict.{Edge, Pair, block, exitsBy, exits, wayTo, isTest, condition, touches, opposes, denies, listed, conflicts, same, secondOf, Holds, Sound, noBlock}
 use Rattle.lower_laws.specs.Blocks.{beyond}
 use Rattle.lower_laws.specs.Joined.{past-count, no-test, denies-test, opposes-test, listed-none}
 use Rattle.form.specs.Form.{when}
-use Rattle.path_sets.specs.declared.Sets.{Sets}
-use Rattle.local_sets.specs.Local.{wayTo, localOf}
-use Rattle.path_sets.specs.Sets.{setsOf}
+use Rattle.sets.specs.declared.Sets.{Sets}
+use Rattle.sets.specs.Local.{localOf}
+use Rattle.sets.specs.Found.{setsOf}
 use Rattle.words.specs.Tabled.{tabled, rows}
 use Rattle.words.specs.Filled.{tabled-at}
 use Rattle.theory.specs.Route.{stepCost}

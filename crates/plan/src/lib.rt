@@ -47,7 +47,8 @@ pub fn plan_of(body: form::Body) -> [u64; 1024]
     requires { ⌜ Sound body ⌝ }
     ensures { λ r. ⌜ Planned body (stepCost body) r ⌝ }
 {
-    let sets = path_sets::sets_of(body);
+    let local = local_sets::local_of(body);
+    let sets = path_sets::sets_of(local);
     let blocks = body.blocks;
     let targets = sets.targets;
     let touched = sets.touched;

@@ -1,19 +1,21 @@
 -- Numbers and their bytes: the digits of a number in base 256 are the bytes it was read from, and the number read from its digits is that number; a signed
--- number is 32 bits and back. And reading a record at a place is reading what is left from there on. Rests on Form.
+-- number is 32 bits and back. Rests on Form.
 use mathlib.Core.Bool.{Bool, true, false}
 use mathlib.Core.List.{List, [], _∷_, _++_}
 use mathlib.Core.Path.{_≡_, refl, ap, sym, _∙_}
 use Prim.Native.Nat.{ℕ, zero, suc, _+_, _-_, _*_, _/_, _%_, _<_, _≤_, _^_}
-use native.Mathlib.Nat.{zero-add, add-assoc, add-zero, div-div-eq-div-mul}
+use native.Mathlib.Nat.{zero-add, add-zero, div-div-eq-div-mul}
 use native.Mathlib.Omega.{arith}
 use borrow.Author.Tests.{ltb-true, ltb-false}
 use lib.Dec.{ltb, lit<}
-use lib.IntN.{pos, negsuc}
+use lib.IntN.{ℤ, pos, negsuc}
 use lib.ListN.{length, drop}
-use lib.Seq.{drop-cons, getD-drop}
+use lib.Seq.{drop-cons}
+use mir.Facts.{toZ-ofZ}
 use mir.Syntax.{w32}
-use mir.Val.{Fits, SFits, toZ, sel}
-use Rattle.form.specs.Form.{byteAt, number2, number4, signed4, blockAt, effectAt, bytes2, bytes4}
+use mir.Val.{Fits, SFits, toZ, ofZ, sel}
+use mir.ValLaws.{ofZ-fits}
+use Rattle.form.specs.Form.{byteAt, number2, number4, signed4, bytes2, bytes4}
 
 -- Every entry is a byte; past the end stands 0, which is one
 abbrev pub OfBytes : List ℕ → Type 0
@@ -32,46 +34,6 @@ pub each-byte : (l : List ℕ) → Each l → OfBytes l
 each-byte [] h i = lit< tt
 each-byte (x ∷ l) h zero = h .0
 each-byte (x ∷ l) h (suc i) = each-byte l (h .1) i
-
--- ---- reading at a place is reading what is left from there on
-
-module _ (s : List ℕ) (at : ℕ) where
-  pub left-byte : (i : ℕ) → byteAt s (at + i) ≡ byteAt (drop at s) i
-  left-byte i = sym (getD-drop at s i 0)
-
-  further : {A : Type 0} (f g : ℕ → A) → ((i : ℕ) → f (at + i) ≡ g i) → (i k : ℕ) → f (at + i + k) ≡ g (i + k)
-  further f g e i k = ap f (add-assoc at i k) ∙ e (i + k)
-
-  pub left-number2 : (i : ℕ) → number2 s (at + i) ≡ number2 (drop at s) i
-  left-number2 i = λ j. left-byte i j + 256 * further (byteAt s) (byteAt (drop at s)) left-byte i 1 j
-
-  pub left-number4 : (i : ℕ) → number4 s (at + i) ≡ number4 (drop at s) i
-  left-number4 i = λ j. left-number2 i j + 65536 * further (number2 s) (number2 (drop at s)) left-number2 i 2 j
-
-  pub left-signed : (i : ℕ) → signed4 s (at + i) ≡ signed4 (drop at s) i
-  left-signed i = ap (toZ w32) (left-number4 i)
-
-  pub left-length : number2 s at ≡ number2 (drop at s) 0
-  left-length = ap (number2 s) (sym (add-zero at)) ∙ left-number2 0
-
-  pub left-effect : effectAt s at ≡ effectAt (drop at s) 0
-  left-effect = λ j. record { variable = left-byte 4 j; how = left-byte 5 j; constant = left-signed 6 j }
-
-  pub left-block : (own : ℕ) → blockAt s at own ≡ blockAt (drop at s) 0 own
-  left-block own = λ j.
-      record {
-        cost = left-number4 4 j;
-        ending = left-byte 8 j;
-        jump = left-byte 9 j;
-        fall = left-byte 10 j;
-        variable = left-byte 11 j;
-        relation = left-byte 12 j;
-        constant = left-signed 13 j;
-        effects = own;
-      }
-
-  pub left-bytes : OfBytes s → OfBytes (drop at s)
-  left-bytes h i = rw (getD-drop at s i 0) (h (at + i))
 
 -- ---- the first bytes, one by one
 
@@ -141,13 +103,24 @@ digits4 n h =
 
 -- ---- signed numbers
 
+-- the four bytes of a signed number
+pub signed-again :
+    (z : ℤ) → SFits w32 z
+    → toZ w32
+    ((ofZ w32 z % 256 + 256 * (ofZ w32 z / 256 % 256)) + 65536 * (ofZ w32 z / 65536 % 256 + 256 * (ofZ w32 z / 16777216 % 256)))
+    ≡ z
+signed-again z f = ap (toZ w32) (digits4 (ofZ w32 z) (ofZ-fits w32 z f .fits)) ∙ toZ-ofZ f
+
 pub zero-fits : SFits w32 (pos 0)
 zero-fits = record { sfits = lit< tt }
 
 -- whatever is read is a number of 32 bits
-pub signed-fits : (n : ℕ) → SFits w32 (toZ w32 n)
+signed-fits : (n : ℕ) → SFits w32 (toZ w32 n)
 signed-fits n = go (ltb n (2 ^ 31)) refl
   where
     go : (t : Bool) → ltb n (2 ^ 31) ≡ t → SFits w32 (sel t (pos n) (negsuc (2 ^ 32 - suc n)))
     go true e = record { sfits = ltb-true _ _ e }
     go false e = record { sfits = omega (arith, ltb-false n (2 ^ 31) e) }
+
+pub signed4-fits : (s : List ℕ) (i : ℕ) → SFits w32 (signed4 s i)
+signed4-fits s i = signed-fits (number4 s i)

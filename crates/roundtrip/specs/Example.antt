@@ -8,7 +8,7 @@ use borrow.Author.Tests.{ltb-true}
 use lib.Dec.{ltb}
 use Rattle.laws.specs.Tests.{and-out}
 use Rattle.form.specs.declared.Verdict.the-variants.{Accepted, Refused}
-use Rattle.form.specs.Form.{recordLength, startsFor, recordsFrom, badField, badTarget, outOfPlace, overLimit, payloadFault, recordFault, endFault, judgeEnds, judgeRecords, judge, bodyOf, lay}
+use Rattle.form.specs.Form.{kindOf, startsFor, recordsFrom, badField, badTarget, outOfPlace, overLimit, payloadFault, recordFault, endFault, judgeEnds, judgeRecords, judge, bodyOf, lay}
 use Rattle.roundtrip.specs.Digits.{Each, each-byte}
 use Rattle.roundtrip.specs.Sound.{WellFormed, well-formed}
 use Rattle.roundtrip.specs.WriteBack.{lay-back}
@@ -28,11 +28,11 @@ trainers t =
     17 ∷ 0 ∷ 2 ∷ 0 ∷ 1 ∷ 0 ∷ 0 ∷ 0 ∷ 0 ∷ 0 ∷ 0 ∷ 0 ∷ 0 ∷ 0 ∷ 0 ∷ 0 ∷ 0 ∷ []
 
 pub accepted : judge (trainers 3) ≡ Accepted
-unfolding recordLength startsFor recordsFrom badField badTarget outOfPlace overLimit payloadFault recordFault endFault judgeEnds judgeRecords judge
+unfolding kindOf startsFor recordsFrom badField badTarget outOfPlace overLimit payloadFault recordFault endFault judgeEnds judgeRecords judge
 accepted = refl
 
 pub refused : judge (trainers 1) ≡ Refused 16 34
-unfolding recordLength startsFor recordsFrom badField badTarget outOfPlace overLimit payloadFault recordFault endFault judgeEnds judgeRecords judge
+unfolding kindOf startsFor recordsFrom badField badTarget outOfPlace overLimit payloadFault recordFault endFault judgeEnds judgeRecords judge
 refused = refl
 
 abbrev bytes : List ℕ → Bool

@@ -1,6 +1,6 @@
 -- Judging sees no more than the front of an input: a longest form has 3,665 bytes (a counter, 64 blocks, 256 effects), and a longer input is refused at a
 -- record that starts there or before, for what stands in its first 17 bytes. So 3,682 bytes decide. Rests on Form, Answer, Records and Acceptance.
-use mathlib.Core.Bool.{Bool, true, false, not, _||_}
+use mathlib.Core.Bool.{Bool, true, false, not, _&&_, _||_}
 use mathlib.Core.List.{List}
 use mathlib.Core.Path.{_≡_, refl, ap, sym, _∙_}
 use Prim.Native.Nat.{ℕ, zero, suc, _+_, _-_, _*_, _<_, _≤_}
@@ -13,9 +13,10 @@ use lib.Seq.{take-all, length-take-le, getD-take}
 use Rattle.laws.specs.Tests.{split}
 use Rattle.form.specs.declared.Verdict.{Verdict}
 use Rattle.form.specs.declared.Verdict.the-variants.{Accepted, Refused}
-use Rattle.form.specs.Form.{when, byteAt, number2, number4, lengthAt, kindAt, isBlock, isEffect, oneIf, recordLength, recordsFrom, badField, badTarget, outOfPlace, overLimit, payloadFault, recordFault, judgeRecords, judge}
+use Rattle.form.specs.Form.{when, byteAt, counterRole, blockRole, effectRole, kindOf, lengthAt, kindNumber, kindAt, isBlock, isEffect, oneIf, recordsFrom, badCounter, badBlock, badEffect, lowTarget, badField, badTarget, outOfPlace, overLimit, payloadFault, recordFault, judgeRecords, judge}
 use Rattle.form.specs.Answer.{reading}
-use Rattle.form.specs.Records.{next, next-above, rest-leave, rest-pass}
+use Rattle.form.specs.Records.{next, next-above, sized, rest-leave, rest-pass}
+use Rattle.roundtrip.specs.Kinds.{effect-length, length-same, kind-same, counter-same, block-same, effect-same}
 use Rattle.roundtrip.specs.Acceptance.{Passed, passed, RecordAt, counter, block, effect, record-at, counter-first, Passing, finish, accepted-form}
 
 -- where a record may start: after the counter, b blocks and e effects, all within the limits
@@ -27,14 +28,11 @@ pub record Within (at b e : ℕ) : Type 0 where
 origin : Within 0 0 0
 origin = record { reach = lit≤ tt; blocks = lit≤ tt; effects = lit≤ tt }
 
-start : Within 17 0 0
-start = record { reach = lit≤ tt; blocks = lit≤ tt; effects = lit≤ tt }
+block-more : {at b e : ℕ} {size : ℕ} → Within at b e → b < 64 → size ≤ 17 → Within (at + size) (b + 1) e
+block-more w h l = record { reach = omega (arith, w .reach); blocks = omega arith; effects = w .effects }
 
-block-more : {at b e : ℕ} → Within at b e → b < 64 → Within (at + 17) (b + 1) e
-block-more w h = record { reach = omega (arith, w .reach); blocks = omega arith; effects = w .effects }
-
-effect-more : {at b e : ℕ} → Within at b e → e < 256 → Within (at + 10) b (e + 1)
-effect-more w h = record { reach = omega (arith, w .reach); blocks = w .blocks; effects = omega arith }
+effect-more : {at b e : ℕ} {size : ℕ} → Within at b e → e < 256 → size ≤ 10 → Within (at + size) b (e + 1)
+effect-more w h l = record { reach = omega (arith, w .reach); blocks = w .blocks; effects = omega arith }
 
 near : {at b e : ℕ} → Within at b e → at ≤ 3665
 near w = omega (arith, w .reach, w .blocks, w .effects)
@@ -42,10 +40,19 @@ near w = omega (arith, w .reach, w .blocks, w .effects)
 -- ---- an accepted form
 
 module _ (s : List ℕ) where
+  most : (at : ℕ) → kindAt s at .length ≤ 17
+  most at = sized (kindNumber s at) .1
+
+  effect-most : (at : ℕ) → kindAt s at .role ≡ effectRole → kindAt s at .length ≤ 10
+  effect-most at r = omega (arith, effect-length s at r)
+
   passing-ends : {at b e : ℕ} {records : List ℕ} → Passing s at b e records → Within at b e → length s ≤ 3665
   passing-ends (finish l ended) w = omega (arith, near w)
-  passing-ends (block k p) w = passing-ends p (block-more w (k .within))
-  passing-ends (effect f p) w = passing-ends p (effect-more w (f .within))
+  passing-ends (block {at = at} k p) w = passing-ends p (block-more w (k .within) (most at))
+  passing-ends (effect {at = at} f p) w = passing-ends p (effect-more w (f .within) (effect-most at (f .role)))
+
+  start : Within (next s 0) 0 0
+  start = record { reach = omega (arith, most 0); blocks = lit≤ tt; effects = lit≤ tt }
 
   -- a counter, 64 blocks and 256 effects at most
   pub front-body : judge s ≡ Accepted → length s ≤ 3665
@@ -56,15 +63,6 @@ module _ (s : List ℕ) where
 
 -- ---- one record
 
-length-most : (kind : ℕ) → recordLength kind ≤ 17
-unfolding recordLength
-length-most kind = cases (eqb kind 3) (eqb kind 1 || eqb kind 2)
-  where
-    cases : (a b : Bool) → when a 10 (when b 17 4) ≤ 17
-    cases true b = lit≤ tt
-    cases false true = lit≤ tt
-    cases false false = lit≤ tt
-
 -- the length beyond the input counts only where it is the kind's own
 sizes :
     (sized beyond beyond′ : Bool) (rest : ℕ) → (sized ≡ true → beyond ≡ beyond′)
@@ -74,30 +72,23 @@ sizes false beyond beyond′ rest h = refl
 
 -- after a record without a fault the next one starts within the limits
 further : (s : List ℕ) (at b e : ℕ) → RecordAt s at b e → Within at b e → Within (next s at) (b + oneIf (isBlock s at)) (e + oneIf (isEffect s at))
-unfolding recordLength
 further s at b e (counter c) w =
-    rw (c .kind, add-zero b, add-zero e) (record { reach = omega (arith, c .first); blocks = w .blocks; effects = w .effects })
-further s at b e (block k) w = rw (k .kind, add-zero e) (block-more w (k .within))
-further s at b e (effect f) w = rw (f .kind, add-zero b) (effect-more w (f .within))
+    rw (c .role, add-zero b, add-zero e) (record { reach = omega (arith, c .first, most s at); blocks = w .blocks; effects = w .effects })
+further s at b e (block k) w = rw (k .role, add-zero e) (block-more w (k .within) (most s at))
+further s at b e (effect f) w = rw (f .role, add-zero b) (effect-more w (f .within) (effect-most s at (f .role)))
 
 -- two inputs of at least 3,682 bytes, of which those are the same
 module _ (s t : List ℕ) (long : 3682 ≤ length s) (long′ : 3682 ≤ length t) (same : (i : ℕ) → i < 3682 → byteAt s i ≡ byteAt t i) where
-  same2 : (i : ℕ) → i + 2 ≤ 3682 → number2 s i ≡ number2 t i
-  same2 i h = λ j. same i (omega arith) j + 256 * same (i + 1) (omega arith) j
-
-  same4 : (i : ℕ) → i + 4 ≤ 3682 → number4 s i ≡ number4 t i
-  same4 i h = λ j. same2 i (omega arith) j + 65536 * same2 (i + 2) (omega arith) j
-
   -- judged alike from a place on
   abbrev Alike : ℕ → ℕ → ℕ → Type 0
   Alike at b e = judgeRecords s (recordsFrom s at) b e ≡ judgeRecords t (recordsFrom t at) b e
 
   module _ (at : ℕ) (h : at ≤ 3665) where
-    kind : kindAt s at ≡ kindAt t at
-    kind = same2 (at + 2) (omega arith)
+    here : (i : ℕ) → i < 17 → byteAt s (at + i) ≡ byteAt t (at + i)
+    here i l = same (at + i) (omega arith)
 
-    byte : (k : ℕ) → k < 17 → byteAt s (at + k) ≡ byteAt t (at + k)
-    byte k l = same (at + k) (omega arith)
+    kind : kindAt s at ≡ kindAt t at
+    kind = ap kindOf (kind-same s t at at here)
 
     same-place : (b : ℕ) → outOfPlace s at b ≡ outOfPlace t at b
     unfolding outOfPlace
@@ -109,24 +100,15 @@ module _ (s t : List ℕ) (long : 3682 ≤ length s) (long′ : 3682 ≤ length 
 
     same-target : (b : ℕ) → badTarget s at b ≡ badTarget t at b
     unfolding badTarget
-    same-target b = rw (kind, byte 8 (lit< tt), byte 9 (lit< tt), byte 10 (lit< tt))
+    same-target b = λ i. eqb (kind i .role) blockRole && lowTarget (block-same s t at at here 0 i) b
 
     same-field : badField s at ≡ badField t at
     unfolding badField
     same-field =
-        rw (
-          kind,
-          same4 (at + 4) (omega arith),
-          byte 4 (lit< tt),
-          byte 5 (lit< tt),
-          same4 (at + 6) (omega arith),
-          byte 8 (lit< tt),
-          byte 9 (lit< tt),
-          byte 10 (lit< tt),
-          byte 11 (lit< tt),
-          byte 12 (lit< tt),
-          same4 (at + 13) (omega arith),
-        )
+        λ i.
+        (eqb (kind i .role) counterRole && badCounter (counter-same s t at at here i))
+        || ((eqb (kind i .role) blockRole && badBlock (block-same s t at at here 0 i))
+        || (eqb (kind i .role) effectRole && badEffect (effect-same s t at at here i)))
 
     same-payload : (b e : ℕ) → payloadFault s at b e ≡ payloadFault t at b e
     unfolding payloadFault
@@ -136,14 +118,14 @@ module _ (s t : List ℕ) (long : 3682 ≤ length s) (long′ : 3682 ≤ length 
     fits : (m : ℕ) → m ≤ 17 → ltb (length s - at) m ≡ ltb (length t - at) m
     fits m l = le-ltb (length s - at) m (omega arith) ∙ sym (le-ltb (length t - at) m (omega arith))
 
-    own : eqb (lengthAt t at) (recordLength (kindAt t at)) ≡ true → lengthAt t at ≤ 17
-    own e = omega (arith, eqb-true (lengthAt t at) _ e, length-most (kindAt t at))
+    own : eqb (lengthAt t at) (kindAt t at .length) ≡ true → lengthAt t at ≤ 17
+    own e = omega (arith, eqb-true (lengthAt t at) _ e, most t at)
 
     same-fault : (b e : ℕ) → recordFault s at b e ≡ recordFault t at b e
     unfolding recordFault
     same-fault b e =
-        let size = sizes (eqb (lengthAt t at) (recordLength (kindAt t at))) (ltb (length s - at) (lengthAt t at)) _ (payloadFault t at b e) (λ q. fits _ (own q)) in
-        rw (same2 at (omega arith), kind, same-payload b e, fits 4 (lit≤ tt), size)
+        let size = sizes (eqb (lengthAt t at) (kindAt t at .length)) (ltb (length s - at) (lengthAt t at)) _ (payloadFault t at b e) (λ q. fits _ (own q)) in
+        rw (length-same s t at at here, kind, same-payload b e, fits 4 (lit≤ tt), size)
 
     -- so both are judged alike from it on, if they are after it where it has no fault
     turn :
@@ -156,7 +138,7 @@ module _ (s t : List ℕ) (long : 3682 ≤ length s) (long′ : 3682 ≤ length 
         let z = eqb-true _ _ q in
         sym (rest-pass s at (omega arith) b e _ z refl)
         ∙ (after (passed s at b e z)
-        ∙ ((λ i. judgeRecords t (recordsFrom t (at + recordLength (kind i))) (b + oneIf (eqb (kind i) 2)) (e + oneIf (eqb (kind i) 3)))
+        ∙ ((λ i. judgeRecords t (recordsFrom t (at + kind i .length)) (b + oneIf (eqb (kind i .role) blockRole)) (e + oneIf (eqb (kind i .role) effectRole)))
         ∙ rest-pass t at (omega arith) b e _ (sym (same-fault b e) ∙ z) refl)))
         (λ q.
         let f = eqb-false _ _ q in

@@ -4,10 +4,12 @@
 --   Trips      what is read writes back, what is written reads back, over any answers that meet the promises
 --   Example    the trainer's body of document 01 goes through
 --   Front      the first 3,682 bytes of any input decide how it is judged and read; an accepted form has at most 3,665
+--   Refusals   which refusals the reader and the writer can give
 --   Unique     one answer and one content of the lent bytes for each call; bodies that are the same up to their counts
--- The rest is their proof: numbers and bytes (Digits), filled arrays (Filled), acceptance record by record (Acceptance), bytes laid out record by record (Laid),
+-- The rest is their proof: numbers and bytes (Digits), one record of each kind (Kinds), filled arrays (Filled), acceptance record by record (Acceptance), bytes laid out record by record (Laid),
 -- and the two trips over bytes and bodies (WriteBack, ReadBack).
 pub mod Digits
+pub mod Kinds
 pub mod Filled
 pub mod Acceptance
 pub mod Laid
@@ -15,6 +17,7 @@ pub mod Sound
 pub mod Read
 pub mod WriteBack
 pub mod Unique
+pub mod Refusals
 pub mod Front
 pub mod ReadBack
 pub mod Trips

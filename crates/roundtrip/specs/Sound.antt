@@ -14,17 +14,18 @@ use lib.IntN.{pos}
 use lib.ListN.{length, getD, take, drop}
 use lib.Seq.{getD-take}
 use mir.Syntax.{w32}
-use mir.Val.{SFits, toZ}
+use mir.Val.{SFits}
 use Rattle.laws.specs.Terms.{Mem}
 use Rattle.laws.specs.Tests.{or-no}
 use Rattle.form.specs.declared.Block.{Block}
 use Rattle.form.specs.declared.Effect.{Effect}
 use Rattle.form.specs.declared.Body.{Body}
 use Rattle.form.specs.declared.Verdict.the-variants.{Accepted}
-use Rattle.form.specs.Form.{byteAt, number4, isBlock, recordsFrom, endFault, someTarget, judgeEnds, judge, gather, ownEffects, blockAt, effectAt, blocksIn, effectsIn, zeroBlock, zeroEffect, fill, bodyOf, sumOwn, countsFit}
+use Rattle.form.specs.Form.{blockRole, isBlock, recordsFrom, badEnd, farTarget, endFault, judgeEnds, judge, gather, ownEffects, blockAt, effectAt, blocksIn, effectsIn, zeroBlock, zeroEffect, fill, bodyOf, sumOwn, countsFit}
 use Rattle.form.specs.Conflict.{block as block-of, effectsBelow, effectsOf, exitsBy, exits, Onward, Sound}
 use Rattle.form.specs.Laying.{blocksCounted}
-use Rattle.roundtrip.specs.Digits.{zero-fits, signed-fits}
+use Rattle.form.specs.Records.{next}
+use Rattle.roundtrip.specs.Digits.{zero-fits, signed4-fits}
 use Rattle.roundtrip.specs.Filled.{effectsCounted, fill-length}
 use Rattle.roundtrip.specs.Acceptance.{judged-out, no-fault, second-fails, no-target, some-before, one-more, BlockRecord, EffectRecord, Passing, finish, block, effect, AcceptedForm, accepted-form, Counts, counts, blocks-after, effects-after, blocks-read, effects-read}
 
@@ -115,49 +116,40 @@ module _ (s : List ℕ) where
   block-well : (at b n own : ℕ) → BlockRecord s at b → endFault s at n b ≡ 0 → WellFormedBlock n b (blockAt s at own)
   unfolding endFault
   block-well at b n own k e =
-      let (end, e₁) = no-fault (isBlock s at && badEnd) 18 _ (lit< tt) e in
-      let (beyond, e₂) = no-fault (isBlock s at && badReach) 19 0 (lit< tt) e₁ in
-      let (early, late) = or-no (ltb (b + 1) n && eqb ending 0) _ (second-fails badEnd is end) in
-      let (inside, inside′) = no-target ending _ _ (second-fails badReach is beyond) in
+      let (end, e₁) = no-fault (isBlock s at && badEnd (blockAt s at 0) n b) 18 _ (lit< tt) e in
+      let (beyond, e₂) = no-fault (isBlock s at && farTarget (blockAt s at 0) n) 19 0 (lit< tt) e₁ in
+      let (early, late) = or-no (ltb (b + 1) n && eqb ending 0) _ (second-fails (badEnd (blockAt s at 0) n b) is end) in
+      let (inside, inside′) = no-target ending _ _ (second-fails (farTarget (blockAt s at 0) n) is beyond) in
+      let good = k .fields in
       record {
-        cost = k .cost;
-        ending = k .ending;
-        variable = k .variable;
-        relation = k .relation;
-        constant = signed-fits (number4 s (at + 13));
+        cost = good .cost;
+        ending = good .ending;
+        variable = good .variable;
+        relation = good .relation;
+        constant = signed4-fits s _;
         last-ends = λ l. omega (arith, ltb-false 0 ending (second-fails (ltb 0 ending) (le-leb n (b + 1) (omega arith)) late));
         only-last = λ l. some-before ending (second-fails (eqb ending 0) (lt-ltb (b + 1) n (omega arith)) early);
         jump-above = k .jump-above;
         jump-inside = λ u. leb-false _ _ (inside u);
         fall-above = k .fall-above;
         fall-inside = λ u. leb-false _ _ (inside′ u);
-        no-jump = k .no-jump;
-        no-fall = k .no-fall;
-        no-variable = k .no-variable;
-        no-relation = k .no-relation;
-        no-constant = λ u. ap (toZ w32) (k .no-constant u);
+        no-jump = good .no-jump;
+        no-fall = good .no-fall;
+        no-variable = good .no-variable;
+        no-relation = good .no-relation;
+        no-constant = good .no-constant;
       }
     where
       ending : ℕ
-      ending = byteAt s (at + 8)
-
-      badEnd : Bool
-      badEnd = (ltb (b + 1) n && eqb ending 0) || (leb n (b + 1) && ltb 0 ending)
-
-      badReach : Bool
-      badReach = someTarget ending (leb n (byteAt s (at + 9))) (leb n (byteAt s (at + 10)))
+      ending = blockAt s at 0 .ending
 
       is : isBlock s at ≡ true
-      is = eq-eqb _ 2 (k .kind)
+      is = eq-eqb _ blockRole (k .role)
 
   effect-well : (at b e : ℕ) → EffectRecord s at b e → WellFormedEffect (effectAt s at)
   effect-well at b e f =
-      record {
-        variable = f .variable;
-        how = f .how;
-        constant = signed-fits (number4 s (at + 6));
-        no-constant = λ u. ap (toZ w32) (f .no-constant u);
-      }
+      let good = f .fields in
+      record { variable = good .variable; how = good .how; constant = signed4-fits s _; no-constant = good .no-constant }
 
 -- ---- record by record
 
@@ -180,21 +172,21 @@ module _ (s : List ℕ) where
   blocks-well (finish {b = b} l ended) n c a i = past n (b + i) (omega arith)
   blocks-well (block {at = at} {b = b} {rest = rest} k w) n c a i =
       let (fine, more) = judged-out (endFault s at n b) at _ a in
-      let c′ : n ≡ b + suc (length (blocksIn s rest)) = rw (k .kind) at c in
-      let a′ : judgeEnds s n rest (b + 1) ≡ Accepted = rw (k .kind) at more in
+      let c′ : n ≡ b + suc (length (blocksIn s rest)) = rw (k .role) at c in
+      let a′ : judgeEnds s n rest (b + 1) ≡ Accepted = rw (k .role) at more in
       let later = blocks-well w n (c′ ∙ sym (one-more b (length (blocksIn s rest)))) a′ in
-      rw (k .kind) (here-or-later (blocksIn s rest) (block-well s at b n (ownEffects s rest) k fine) later i)
+      rw (k .role) (here-or-later (blocksIn s rest) (block-well s at b n (ownEffects s rest) k fine) later i)
   blocks-well (effect {at = at} {b = b} {rest = rest} f w) n c a i =
       let (fine, more) = judged-out (endFault s at n b) at _ a in
-      let c′ : n ≡ b + length (blocksIn s rest) = rw (f .kind) at c in
-      let a′ : judgeEnds s n rest (b + 0) ≡ Accepted = rw (f .kind) at more in
-      rw (f .kind) (blocks-well w n c′ (subst (λ (m : ℕ). judgeEnds s n rest m ≡ Accepted) (add-zero b) a′) i)
+      let c′ : n ≡ b + length (blocksIn s rest) = rw (f .role) at c in
+      let a′ : judgeEnds s n rest (b + 0) ≡ Accepted = rw (f .role) at more in
+      rw (f .role) (blocks-well w n c′ (subst (λ (m : ℕ). judgeEnds s n rest m ≡ Accepted) (add-zero b) a′) i)
 
   effects-well : {at b e : ℕ} {records : List ℕ} → Passing s at b e records → (i : ℕ) → WellFormedEffect (getD (effectsIn s records) i zeroEffect)
   unfolding gather
   effects-well (finish l ended) i = record { variable = lit≤ tt; how = lit≤ tt; constant = zero-fits; no-constant = λ u. refl }
-  effects-well (block k w) i = rw (k .kind) (effects-well w i)
-  effects-well (effect {at = at} {b = b} {e = e} {rest = rest} f w) i = rw (f .kind) (first-or-later (effectsIn s rest) (effect-well s at b e f) (effects-well w) i)
+  effects-well (block k w) i = rw (k .role) (effects-well w i)
+  effects-well (effect {at = at} {b = b} {e = e} {rest = rest} f w) i = rw (f .role) (first-or-later (effectsIn s rest) (effect-well s at b e f) (effects-well w) i)
 
 -- ---- the theorem
 
@@ -206,22 +198,22 @@ module _ (s : List ℕ) (a : judge s ≡ Accepted) where
   number = counts s read
 
   -- the counter passes the judging of the blocks
-  ends-after : (n : ℕ) → judgeEnds s n (recordsFrom s 0) 0 ≡ Accepted → judgeEnds s n (recordsFrom s 17) 0 ≡ Accepted
+  ends-after : (n : ℕ) → judgeEnds s n (recordsFrom s 0) 0 ≡ Accepted → judgeEnds s n (recordsFrom s (next s 0)) 0 ≡ Accepted
   unfolding judgeEnds
   ends-after n e =
-      let e′ : judgeEnds s n (0 ∷ recordsFrom s 17) 0 ≡ Accepted = rw (read .starts) at e in
-      rw (read .counter .kind) at (judged-out (endFault s 0 n 0) 0 _ e′ .1)
+      let e′ : judgeEnds s n (0 ∷ recordsFrom s (next s 0)) 0 ≡ Accepted = rw (read .starts) at e in
+      rw (read .counter .role) at (judged-out (endFault s 0 n 0) 0 _ e′ .1)
 
-  blocks-same : blocksCounted (bodyOf s) ≡ blocksIn s (recordsFrom s 17)
+  blocks-same : blocksCounted (bodyOf s) ≡ blocksIn s (recordsFrom s (next s 0))
   blocks-same = blocks-read s read ∙ blocks-after s read
 
-  effects-same : effectsCounted (bodyOf s) ≡ effectsIn s (recordsFrom s 17)
+  effects-same : effectsCounted (bodyOf s) ≡ effectsIn s (recordsFrom s (next s 0))
   effects-same = effects-read s read ∙ effects-after s read
 
   block-read : (b : ℕ) → WellFormedBlock (bodyOf s .count) b (blockOf (bodyOf s) b)
   block-read b =
       let n = bodyOf s .count in
-      let all : n ≡ 0 + length (blocksIn s (recordsFrom s 17)) = ap length (blocks-after s read) ∙ sym (zero-add _) in
+      let all : n ≡ 0 + length (blocksIn s (recordsFrom s (next s 0))) = ap length (blocks-after s read) ∙ sym (zero-add _) in
       subst (λ (p : ℕ × List Block). WellFormedBlock n (p .0) (getD (p .1) b zeroBlock)) (λ i. (zero-add b i, sym blocks-same i))
       (blocks-well s (read .passing) n all (ends-after n (number .ended .ends)) b)
 
@@ -237,10 +229,10 @@ module _ (s : List ℕ) (a : judge s ≡ Accepted) where
         few-blocks = number .few-blocks;
         few-effects = number .few-effects;
         add-up = ap sumOwn (blocks-read s read) ∙ number .owned;
-        initial = signed-fits (number4 s 4);
-        step = signed-fits (number4 s 8);
+        initial = signed4-fits s _;
+        step = signed4-fits s _;
         relation = read .counter .relation;
-        limit = signed-fits (number4 s 13);
+        limit = signed4-fits s _;
         blocks = block-read;
         effects = effect-read;
       }

@@ -14,7 +14,7 @@ use Rattle.form.specs.declared.Reading.{Reading}
 use Rattle.form.specs.declared.Verdict.{Verdict}
 use Rattle.form.specs.declared.Verdict.the-variants.{Accepted, Refused}
 use Rattle.form.specs.declared.Written.{Written}
-use Rattle.form.specs.declared.Written.the-variants.{Bytes, Unwritten}
+use Rattle.form.specs.declared.Written.the-variants.{Bytes, Refused as Unwritten}
 use Rattle.form.specs.Form.{when, counterAt, zeroBlock, zeroEffect, bodyWith, bodyOf, zeroBody, upToCounts, lay, countsFit, judge}
 use Rattle.form.specs.Answer.{accepted, reading, asJudged, heldAfter}
 use Rattle.form.specs.Laying.{blocksCounted, counts-known}
@@ -90,7 +90,7 @@ read-then-write s h answer e v out room r held o =
     let same : answer .body ≡ bodyOf s = ap (λ (x : Reading). x .body) e ∙ ap (λ (w : Verdict). when (accepted w) (bodyOf s) zeroBody) a in
     let owed : Owed (bodyOf s) out r held = subst (λ (b : Body). Owed b out r held) same o in
     let wrote : r ≡ Bytes (length s) = owed .0 ∙ written-back s a h (length out) room in
-    (wrote, owed .1 ∙ (λ i. heldAfter (wrote i) (lay-back s a h i) out))
+    (wrote, owed .1 .0 ∙ (λ i. heldAfter (wrote i) (lay-back s a h i) out))
 
 -- ---- write, then read
 
@@ -114,6 +114,6 @@ pub write-then-read :
 write-then-read body h out r held o n e =
     let (fit, a, m) =
     wrote (countsFit body) (judge (lay body)) (ltb (length out) (length (lay body))) (length (lay body)) n (sym (o .0) ∙ e) in
-    let holds : held ≡ lay body ++ drop (length (lay body)) out = o .1 ∙ ap (λ (w : Written). heldAfter w (lay body) out) e in
+    let holds : held ≡ lay body ++ drop (length (lay body)) out = o .1 .0 ∙ ap (λ (w : Written). heldAfter w (lay body) out) e in
     let form : take n held ≡ lay body = ap (take n) holds ∙ take-at (lay body) (drop (length (lay body)) out) n m in
     ap reading form ∙ reading-back body h fit a

@@ -13,18 +13,18 @@ use Rattle.form.specs.declared.Body.{Body}
 use Rattle.form.specs.declared.Reading.{Reading}
 use Rattle.form.specs.declared.Verdict.{Verdict}
 use Rattle.form.specs.declared.Written.{Written}
-use Rattle.form.specs.declared.Written.the-variants.{Bytes, Unwritten}
+use Rattle.form.specs.declared.Written.the-variants.{Bytes, Refused as Unwritten}
 use Rattle.form.specs.Form.{when, judge, counterBytes, layBlocks, lay, sumOwn, countsFit}
-use Rattle.form.specs.Answer.{accepted, reading, asJudged, written, heldAfter}
+use Rattle.form.specs.Answer.{accepted, Judged, reading, asJudged, heldAfter, Wrote}
 use Rattle.form.specs.Laying.{blocksCounted}
-use Rattle.form.specs.Writing.{counts-refused}
+use Rattle.form.specs.Writing.{wrote-as, counts-refused}
 use Rattle.roundtrip.specs.Filled.{effectsCounted}
 use Rattle.roundtrip.specs.Laid.{lay-taken}
 
 -- ---- one answer to each question
 
-pub one-verdict : (s : List ℕ) (a b : Verdict) → a ≡ judge s → b ≡ judge s → a ≡ b
-one-verdict s a b p q = p ∙ sym q
+pub one-verdict : (s : List ℕ) (a b : Verdict) → Judged s a → Judged s b → a ≡ b
+one-verdict s a b p q = p .0 ∙ sym (q .0)
 
 pub one-acceptance : (v : Verdict) (a b : Bool) → a ≡ accepted v → b ≡ accepted v → a ≡ b
 one-acceptance v a b p q = p ∙ sym q
@@ -34,13 +34,13 @@ one-reading s a b p q = p ∙ sym q
 
 -- what the writer owes: its answer, and what the lent bytes `out` hold after it
 abbrev pub Owed : Body → List ℕ → Written → List ℕ → Type 0
-Owed body out r held = (r ≡ written body (length out)) × (held ≡ heldAfter r (lay body) out)
+Owed = Wrote
 
 pub one-writing :
     (body : Body) (out : List ℕ) (r q : Written) (held kept : List ℕ) → Owed body out r held → Owed body out q kept → (r ≡ q) × (held ≡ kept)
 one-writing body out r q held kept o p =
     let same : r ≡ q = o .0 ∙ sym (p .0) in
-    (same, o .1 ∙ (ap (λ (w : Written). heldAfter w (lay body) out) same ∙ sym (p .1)))
+    (same, o .1 .0 ∙ (ap (λ (w : Written). heldAfter w (lay body) out) same ∙ sym (p .1 .0)))
 
 -- ---- bodies that are the same up to their counts
 
@@ -85,14 +85,13 @@ module _ (a b : Body) (s : Same a b) where
           (Unwritten 14 0)
 
       fit : countsFit a ≡ true → Owed b out r held
-      fit h = (o .0 ∙ (λ i. answer (same-counts i) (same-lay h i)), o .1 ∙ (λ i. heldAfter r (same-lay h i) out))
+      fit h = wrote-as b out r held (o .0 ∙ (λ i. answer (same-counts i) (same-lay h i))) (o .1 .0 ∙ (λ i. heldAfter r (same-lay h i) out))
 
       unfit : countsFit a ≡ false → Owed b out r held
       unfit h =
-          let refusal : r ≡ Unwritten 14 0 = o .0 ∙ sym (counts-refused a (length out) h) in (
-            refusal ∙ counts-refused b (length out) (sym same-counts ∙ h),
-            o .1 ∙ (ap (λ (w : Written). heldAfter w (lay a) out) refusal ∙ sym (ap (λ (w : Written). heldAfter w (lay b) out) refusal)),
-          )
+          let refusal : r ≡ Unwritten 14 0 = o .0 ∙ sym (counts-refused a (length out) h) in
+          wrote-as b out r held (refusal ∙ counts-refused b (length out) (sym same-counts ∙ h))
+          (o .1 .0 ∙ (ap (λ (w : Written). heldAfter w (lay a) out) refusal ∙ sym (ap (λ (w : Written). heldAfter w (lay b) out) refusal)))
 
   pub same-body :
       (out : List ℕ) (r q : Written) (held kept : List ℕ) → Owed a out r held → Owed b out q kept → (r ≡ q) × (held ≡ kept)

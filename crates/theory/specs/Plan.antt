@@ -1,7 +1,7 @@
--- The plan of a body: what the walks need of each block, as 16 words a block in one list of 1,024. What each word is, over form's definitions. The plan is
--- made once of a body; both ways work on it and on nothing else of the body.
+-- The plan of a body: what the walks need of each block, as 16 words a block in one list of 1,024. What each word is,
+-- over form's definitions. The plan is made once of a body; both ways work on it and on nothing else of the body.
 use mathlib.Core.Path.{_≡_}
-use mathlib.Core.Bool.{Bool, false, cond, _&&_}
+use mathlib.Core.Bool.{false, cond, _&&_}
 use mathlib.Core.List.{List, [], _∷_, _++_}
 use Prim.Native.Nat.{ℕ, _+_, _*_, _<_, _≤_}
 use lib.Dec.{ltb}
@@ -61,10 +61,14 @@ pub record Planned (body : Body) (cost : ℕ → ℕ → ℕ) (plan : List ℕ) 
   pub tests : (b : ℕ) → b < body .count → testAt plan b ≡ cond (isTest body b) 1 0
   pub ways : (b : ℕ) → b < body .count → exits body b ≡ exitBy 1 (targetAt plan b 1) ++ exitBy 2 (targetAt plan b 2)
   pub costs : (b way : ℕ) → b < body .count → costAt plan b way ≡ cost b way
-  pub touched : (b k : ℕ) → b < body .count → k < body .count → bit (touchedAt plan b) k ≡ isTest body k && touches body b (condition body (k, 1) .variable)
-  pub denied : (b k side : ℕ) → IsWay side → b < body .count → k < body .count → bit (deniedAt plan b side) k ≡ denies body b (k, side)
-  pub against : (b way k side : ℕ) → IsWay way → IsWay side → b < body .count → k < body .count → bit (againstAt plan b way side) k ≡ opposes body (b, way) (k, side)
-  pub listed-are : (b k side : ℕ) → IsWay side → b < body .count → k < body .count → bit (listedAt plan b side) k ≡ listed (conflicts body) b (k, side)
+  pub touched : (b k : ℕ) → b < body .count → k < body .count
+      → bit (touchedAt plan b) k ≡ isTest body k && touches body b (condition body (k, 1) .variable)
+  pub denied : (b k side : ℕ) → IsWay side → b < body .count → k < body .count
+      → bit (deniedAt plan b side) k ≡ denies body b (k, side)
+  pub against : (b way k side : ℕ) → IsWay way → IsWay side → b < body .count → k < body .count
+      → bit (againstAt plan b way side) k ≡ opposes body (b, way) (k, side)
+  pub listed-are : (b k side : ℕ) → IsWay side → b < body .count → k < body .count
+      → bit (listedAt plan b side) k ≡ listed (conflicts body) b (k, side)
   -- no set has a block past the last one
   pub within : (b w k : ℕ) → 2 < w → w < 12 → b < body .count → body .count ≤ k → bit (wordAt plan b w) k ≡ false
 

@@ -1,5 +1,6 @@
--- Routes, after document 01, 'Conflicts and routes' and 'Full walk': paths in the stated order, conflict in a path, weight, the first of the preferred
--- weight, route bytes, and the number of conflict-free beginnings. Trusted: definitions only. Rests on form's Conflict.
+-- Routes, after document 01, 'Conflicts and routes' and 'Full walk': paths in the stated order, conflict in a path,
+-- weight, the first of the preferred weight, route bytes, and the number of conflict-free beginnings. Trusted:
+-- definitions only. Rests on form's Conflict.
 use mathlib.Core.Bool.{Bool, not, cond, _||_, _&&_}
 use mathlib.Core.List.{List, [], _∷_, _++_, map}
 use mathlib.Core.Option.{Option, none, some}
@@ -33,7 +34,8 @@ at p i = getD p i (0, 0)
 abbrev pub overwritten : Body → Path → ℕ → ℕ → Bool
 overwritten body p i j = any (suc j) (λ k. before i k && touches body (at p k .0) (condition body (at p j) .variable))
 
--- An edge stands in the path, and before it an edge, or before it or in its own block a last constant, that conflicts with it and is not overwritten.
+-- An edge stands in the path, and before it an edge, or before it or in its own block a last constant, that conflicts
+-- with it and is not overwritten.
 unfoldable pub conflict : Body → Path → Bool
 conflict body p = any (length p) (λ j.
     any j (λ i. opposes body (at p i) (at p j) && not (overwritten body p i j))

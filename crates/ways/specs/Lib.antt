@@ -1,2 +1,2 @@
 -- What follows from the promises of both ways.
-pub mod Promise
+pub mod Answered

@@ -9,7 +9,7 @@ ghost use lib.Seq.{paste};
 ghost use mir.Syntax.{w32};
 ghost use mir.Val.{ofZ};
 ghost use Rattle.form.specs.Form.{counterBytes, blockBytes, effectBytes, layEffects, lay, countsFit};
-ghost use Rattle.form.specs.Answer.{asJudged, written, heldAfter};
+ghost use Rattle.form.specs.Answer.{asJudged, Wrote};
 
 // The 32 bits of a signed number.
 fn bits_of(z: i32) -> u32
@@ -198,16 +198,16 @@ fn as_judged(verdict: form::Verdict, rest: form::Written) -> form::Written
 {
     match verdict {
         form::Verdict::Accepted => rest,
-        form::Verdict::Refused { number, place } => form::Written::Unwritten { number, place },
+        form::Verdict::Refused { number, place } => form::Written::Refused { number, place },
     }
 }
 
 // The writer, for any body: its form in the lent bytes, or a refusal that changes none of them.
 pub fn write(body: form::Body, out: &mut [u8]) -> form::Written
-    ensures { λ r. ⌜ (r ≡ written body (length (now (out .entry)))) × (now (out .exit) ≡ heldAfter r (lay body) (now (out .entry))) ⌝ }
+    ensures { λ r. ⌜ Wrote body (now (out .entry)) r (now (out .exit)) ⌝ }
 {
     if !counts_fit(body) {
-        return form::Written::Unwritten {
+        return form::Written::Refused {
             number: 14,
             place: 0,
         };
@@ -219,7 +219,7 @@ pub fn write(body: form::Body, out: &mut [u8]) -> form::Written
         return as_judged(verdict, form::Written::Bytes(0));
     }
     if out.len() < n {
-        return form::Written::Unwritten {
+        return form::Written::Refused {
             number: 42,
             place: n,
         };

@@ -38,7 +38,7 @@ returns-2 c =
     let out = read .before .before .before .args .out .now in
     let answer = wrote .write .ensures .0 ∙ ap (λ (b : Body). written b (length out)) body in (
       rw accepting (c .of-written .ensures ∙ ap writtenAnswer answer),
-      rw accepting (wrote .write .ensures .1 ∙ (λ i. heldAfter (answer i) (lay (body i)) out)),
+      rw accepting (wrote .write .ensures .1 .0 ∙ (λ i. heldAfter (answer i) (lay (body i)) out)),
     )
 
 pub somniaret-rewrite-spec : {M : Type 1} → statement M

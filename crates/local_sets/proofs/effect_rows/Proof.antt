@@ -1,4 +1,4 @@
--- `edges::effect_rows` meets its contract. The loop's invariant: the rows below b are right, and `from` effects are passed. The measure is what is left of the 64.
+-- `local_sets::effect_rows` meets its contract. The loop's invariant: the rows below b are right, and `from` effects are passed. The measure is what is left of the 64.
 use mathlib.Core.Path.{_≡_, refl, sym, subst, _∙_}
 use mathlib.Core.Bool.{Bool, not, _&&_, _||_}
 use Prim.Native.Nat.{ℕ, _+_, _-_, _≤_, _<_}

@@ -1,4 +1,4 @@
--- `edges::hits_of` meets its contract. The loop's invariant: the words are those of the first k effects. The measure is what is left of the effects.
+-- `local_sets::hits_of` meets its contract. The loop's invariant: the words are those of the first k effects. The measure is what is left of the effects.
 use mathlib.Core.Path.{_≡_}
 use Prim.Native.Nat.{_+_, _-_, _≤_}
 use native.Mathlib.Omega.{arith}

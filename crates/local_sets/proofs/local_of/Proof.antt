@@ -1,4 +1,4 @@
--- `edges::local_of` meets its contract. What the called functions say of one another is put together by `local-is`.
+-- `local_sets::local_of` meets its contract. What the called functions say of one another is put together by `local-is`.
 use mathlib.Core.Path.{_≡_}
 use lib.ListN.{length}
 use Rattle.local_sets.specs.Finding.{local-is}

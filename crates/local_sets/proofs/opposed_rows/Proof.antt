@@ -1,4 +1,4 @@
--- `edges::opposed_rows` meets its contract. The loop's invariant: the rows below b are right. The measure is what is left of the 64.
+-- `local_sets::opposed_rows` meets its contract. The loop's invariant: the rows below b are right. The measure is what is left of the 64.
 use mathlib.Core.Path.{refl}
 use Prim.Native.Nat.{_-_, _≤_}
 use native.Mathlib.Omega.{arith}

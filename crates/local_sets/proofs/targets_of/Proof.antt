@@ -1,4 +1,4 @@
--- `edges::targets_of` meets its contract. The loop's invariant: the blocks below i have their targets. The measure is what is left of the 64.
+-- `local_sets::targets_of` meets its contract. The loop's invariant: the blocks below i have their targets. The measure is what is left of the 64.
 use mathlib.Core.Path.{_≡_, refl, ap, _∙_}
 use Prim.Native.Nat.{_-_, _≤_}
 use native.Mathlib.Omega.{arith}
@@ -6,8 +6,7 @@ use lib.ListN.{length}
 use Rattle.form.specs.Conflict.{noBlock}
 use Rattle.lower_laws.specs.Blocks.{taken}
 use Rattle.words.specs.Filled.{Told, told-none, told-more, told-end}
-use Rattle.local_sets.specs.Parts.{blockIn}
-use Rattle.lower_laws.specs.Joined.{jumpOf, fallOf}
+use Rattle.local_sets.specs.Parts.{blockIn, jumpOf, fallOf}
 use borrow.Author.Needs.{needs}
 use Rattle.local_sets.proofs.targets_of.Statement.{statement}
 use Rattle.local_sets.proofs.targets_of.Tie as tie

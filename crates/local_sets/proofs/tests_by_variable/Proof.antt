@@ -1,4 +1,4 @@
--- `edges::tests_by_variable` meets its contract. The loop's invariant: the tests below i are sorted. The measure is what is left of the 64.
+-- `local_sets::tests_by_variable` meets its contract. The loop's invariant: the tests below i are sorted. The measure is what is left of the 64.
 use mathlib.Core.Path.{refl}
 use Prim.Native.Nat.{_-_, _≤_}
 use native.Mathlib.Omega.{arith}

@@ -1,4 +1,4 @@
--- `edges::tests_of` meets its contract. The loop's invariant: the blocks below i have their places. The measure is what is left of the 64.
+-- `local_sets::tests_of` meets its contract. The loop's invariant: the blocks below i have their places. The measure is what is left of the 64.
 use mathlib.Core.Path.{_≡_, refl, ap, _∙_}
 use Prim.Native.Nat.{_-_, _≤_}
 use native.Mathlib.Omega.{arith}

@@ -5,28 +5,10 @@ use borrow.Author.Needs.{needs}
 use Rattle.plan.proofs.prepare.Statement.{statement}
 use Rattle.plan.proofs.prepare.Tie as tie
 
-read-requires : tie.Need-read-requires
-read-requires c κs = search needs
-
-enum-known-verdict : tie.Need-enum-known-verdict
-enum-known-verdict c = search needs
-
-unprepared-requires : tie.Need-unprepared-requires
-unprepared-requires c κs = search needs
-
-enum-told : tie.Need-enum-told
-enum-told c = search needs
-
 plan-of-requires : tie.Need-plan-of-requires
 plan-of-requires c κs =
     let read = c .before .before .before .read in
     read-sound (c .before .before .before .before .before .args .form .now) (read .result) (read .ensures) (c .enum-told .given .1)
-
-count-of-requires : tie.Need-count-of-requires
-count-of-requires c κs = search needs
-
-with-count-requires : tie.Need-with-count-requires
-with-count-requires c κs = search needs
 
 returns : tie.Need-returns
 returns c =
@@ -46,12 +28,12 @@ pub prepare-spec : {M : Type 1} → statement M
 prepare-spec =
     tie.close
     (tie.spec
-    read-requires
-    enum-known-verdict
-    unprepared-requires
-    enum-told
+    (λ c κs. search needs)
+    (λ c. search needs)
+    (λ c κs. search needs)
+    (λ c. search needs)
     plan-of-requires
-    count-of-requires
-    with-count-requires
+    (λ c κs. search needs)
+    (λ c κs. search needs)
     returns
     returns-2)

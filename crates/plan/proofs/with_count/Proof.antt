@@ -5,15 +5,6 @@ use borrow.Author.Needs.{needs}
 use Rattle.plan.proofs.with_count.Statement.{statement}
 use Rattle.plan.proofs.with_count.Tie as tie
 
-enum-known-counted : tie.Need-enum-known-counted
-enum-known-counted c = search needs
-
-unprepared-requires : tie.Need-unprepared-requires
-unprepared-requires c κs = search needs
-
-enum-known-counted-2 : tie.Need-enum-known-counted-2
-enum-known-counted-2 c = search needs
-
 returns : tie.Need-returns
 returns c = without (c .before .before .counted .given .1) (c .unprepared .ensures)
 
@@ -23,4 +14,4 @@ returns-2 c = with-count (c .before .counted2 .given .1) refl refl refl
 pub with-count-spec : {M : Type 1} → statement M
 with-count-spec =
     tie.close
-    (tie.spec enum-known-counted unprepared-requires enum-known-counted-2 returns returns-2)
+    (tie.spec (λ c. search needs) (λ c κs. search needs) (λ c. search needs) returns returns-2)

@@ -1,4 +1,4 @@
--- `form::over_limit` meets its contract.
+-- `reader::over_limit` meets its contract.
 use mathlib.Core.Bool.{_&&_, _||_}
 use lib.Dec.{leb, eqb}
 use borrow.Author.Needs.{needs}
@@ -9,9 +9,10 @@ use Rattle.reader.proofs.over_limit.Tie as tie
 returns : tie.Need-returns
 unfolding overLimit
 returns c =
-    let kind = c .short-at .ensures .0 in
-    let args = c .before .before .args in
-    λ i. (eqb (kind i) 2 && leb 64 (args .b)) || (eqb (kind i) 3 && leb 256 (args .e))
+    let read = c .before .before in
+    let kind = read .kind-at .ensures .0 in
+    let args = read .before .before .args in
+    λ i. (eqb (kind i .role) 2 && leb 64 (args .b)) || (eqb (kind i .role) 3 && leb 256 (args .e))
 
 pub over-limit-spec : {M : Type 1} → statement M
-over-limit-spec = tie.close (tie.spec (λ c. search needs) (λ c κs. search needs) returns)
+over-limit-spec = tie.close (tie.spec (λ c κs. search needs) returns)

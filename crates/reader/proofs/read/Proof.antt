@@ -20,12 +20,12 @@ reading-is s v t body p q r =
 returns : tie.Need-returns
 returns c =
     let tested = c .before .before in
-    reading-is _ _ true _ (tested .before .judge .ensures) (sym (c .before .if1 .taken) ∙ tested .accepts .ensures) (c .body-of .ensures)
+    reading-is _ _ true _ (tested .before .judge .ensures .0) (sym (c .before .if1 .taken) ∙ tested .accepts .ensures) (c .body-of .ensures)
 
 returns-2 : tie.Need-returns-2
 returns-2 c =
     let tested = c .before .before in
-    reading-is _ _ false _ (tested .before .judge .ensures) (sym (c .before .if1 .left) ∙ tested .accepts .ensures) (c .zero-body .ensures)
+    reading-is _ _ false _ (tested .before .judge .ensures .0) (sym (c .before .if1 .left) ∙ tested .accepts .ensures) (c .zero-body .ensures)
 
 pub read-spec : {M : Type 1} → statement M
 read-spec =

@@ -1,11 +1,11 @@
--- `form::record_fault` meets its contract.
-use mathlib.Core.Bool.{not, _||_}
+-- `reader::record_fault` meets its contract.
+use mathlib.Core.Bool.{not}
 use mathlib.Core.Path.{_∙_}
 use Prim.Native.Nat.{_-_}
 use lib.Dec.{ltb, eqb}
 use lib.ListN.{length}
 use borrow.Author.Needs.{needs}
-use Rattle.form.specs.Form.{when, recordLength, recordFault}
+use Rattle.form.specs.Form.{when, recordFault}
 use Rattle.reader.proofs.record_fault.Statement.{statement}
 use Rattle.reader.proofs.record_fault.Tie as tie
 
@@ -13,19 +13,19 @@ returns : tie.Need-returns
 unfolding recordFault
 returns c =
     let unknown = c .before in
-    let wrong = unknown .before in
+    let wrong = unknown .before .before in
     let beyond = wrong .before .before in
     let payload = beyond .before in
-    let kind = payload .before .short-at2 .ensures .0 in
+    let kind = payload .before .kind-at .ensures .0 in
     let size = payload .before .before .short-at .ensures .0 in
-    let left = length (payload .before .before .before .before .args .s .now) - payload .before .before .before .before .args .at in
+    let args = payload .before .before .before .before .args in
+    let left = length (args .s .now) - args .at in
     let for-beyond = beyond .refuse-if .ensures ∙ (λ i. when (ltb left (size i)) 10 (payload .payload-fault .ensures i)) in
-    let for-length = wrong .before .record-length .ensures .0 ∙ (λ i. recordLength (kind i)) in
-    let for-wrong = wrong .refuse-if2 .ensures ∙ (λ i. when (not (eqb (size i) (for-length i))) 11 (for-beyond i)) in
-    let for-unknown = unknown .refuse-if3 .ensures ∙ (λ i. when (not (eqb (kind i) 1 || (eqb (kind i) 2 || eqb (kind i) 3))) 12 (for-wrong i)) in
+    let for-wrong = wrong .refuse-if2 .ensures ∙ (λ i. when (not (eqb (size i) (kind i .length))) 11 (for-beyond i)) in
+    let for-unknown = unknown .refuse-if3 .ensures ∙ (λ i. when (eqb (kind i .role) 0) 12 (for-wrong i)) in
     c .refuse-if4 .ensures ∙ (λ i. when (ltb left 4) 10 (for-unknown i))
 
 pub record-fault-spec : {M : Type 1} → statement M
 record-fault-spec =
     tie.close
-    (tie.spec (λ c. search needs) (λ c κs. search needs) (λ c. search needs) (λ c κs. search needs) (λ c. search needs) (λ c κs. search needs) (λ _ _. tt) (λ _ _. tt) (λ _ _. tt) (λ _ _. tt) (λ _ _. tt) returns)
+    (tie.spec (λ c. search needs) (λ c κs. search needs) (λ c κs. search needs) (λ c. search needs) (λ c κs. search needs) (λ _ _. tt) (λ _ _. tt) (λ _ _. tt) (λ _ _. tt) returns)

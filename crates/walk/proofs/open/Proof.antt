@@ -1,4 +1,4 @@
--- `routes::walk::open` meets its contract.
+-- `walk::open` meets its contract.
 use mathlib.Core.Path.{ap}
 use mathlib.Core.Bool.{Bool, _&&_, not}
 use lib.Dec.{ltb}

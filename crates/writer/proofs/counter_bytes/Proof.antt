@@ -1,10 +1,12 @@
 -- `writer::counter_bytes` meets its contract.
 use borrow.Author.Needs.{needs}
 use Rattle.laws.specs.Complement.{field-bits}
+use Rattle.form.specs.Form.{kindOf}
 use Rattle.writer.proofs.counter_bytes.Statement.{statement}
 use Rattle.writer.proofs.counter_bytes.Tie as tie
 
 returns : tie.Need-returns
+unfolding kindOf
 returns c =
     let step = c .before .before in
     let initial = step .before .before in

@@ -1,10 +1,12 @@
 -- `writer::effect_bytes` meets its contract.
 use borrow.Author.Needs.{needs}
 use Rattle.laws.specs.Complement.{field-bits}
+use Rattle.form.specs.Form.{kindOf}
 use Rattle.writer.proofs.effect_bytes.Statement.{statement}
 use Rattle.writer.proofs.effect_bytes.Tie as tie
 
 returns : tie.Need-returns
+unfolding kindOf
 returns c = rw (field-bits (c .before .before .args .e .constant) (c .before .struct-told .given .1 .1 .0 .1) (c .bits-of .ensures))
 
 pub effect-bytes-spec : {M : Type 1} → statement M

@@ -37,7 +37,7 @@ refusal-requires c κs = search needs
 returns : tie.Need-returns
 returns c =
     let here = c .before .before .before .before .before .before .before in
-    written-fits _ _ _ _ _ (here .write .ensures .0) (here .write .ensures .1) (c .before .before .before .before .before .n .given .1)
+    written-fits _ _ _ _ _ (here .write .ensures .0) (here .write .ensures .1 .0) (c .before .before .before .before .before .n .given .1)
 
 returns-2 : tie.Need-returns-2
 returns-2 c = search needs
