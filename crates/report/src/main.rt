@@ -75,7 +75,7 @@ fn report(form: &[u8], out: &mut [u8]) -> usize
     ensures { λ r. ⌜ Reported (now (form .entry)) (take r (now (out .exit))) × (r ≤ 1700) ⌝ }
 {
     let mut route = [0u8; 64];
-    match table::sweep_own(form, &mut route) {
+    match sweep::sweep_own(form, &mut route) {
         SweepAnswer::Routed {
             iterations,
             weight,
