@@ -24,7 +24,7 @@ use Rattle.sets.specs.Local.{edgeRows, localOf}
 use Rattle.local_sets.specs.declared.Tests.{Tests}
 use Rattle.local_sets.specs.declared.Columns.{Columns}
 use Rattle.local_sets.specs.declared.EffectRows.{EffectRows}
-use Rattle.local_sets.specs.Parts.{blockIn, ColumnsOf, Sized, TouchedBy, conditionAt, DeniedBy, OpposedAt, passed, ownEffects, EffectRowsOf, OpposedOf}
+use Rattle.local_sets.specs.Parts.{blockIn, ColumnsOf, Sized, TouchedBy, conditionAt, DeniedBy, AlikeAt, OpposedAt, passed, ownEffects, EffectRowsOf, OpposedOf}
 
 pub columns-sized : {block : ℕ → Block} (c : Columns) → ColumnsOf block c → Sized (c .tests)
 columns-sized c s = record { variables = s .variables .size; jumps = s .jumps .size; falls = s .falls .size; constants = s .constants .size }
@@ -92,12 +92,14 @@ module _ (body : Body) (size : length (body .blocks) ≡ 64) (c : Columns) (show
   both-tests : (b k : ℕ) (x y : Bool) → (isTest body b ≡ true → isTest body k ≡ true → x ≡ y) → ((isTest body b && isTest body k) && x) ≡ ((isTest body b && isTest body k) && y)
   both-tests b k x y f = split (isTest body b) (λ e. split (isTest body k) (λ d. ap (λ z. (isTest body b && isTest body k) && z) (f e d)) (λ d. rw (d, and-false (isTest body b)))) (λ e. rw e)
 
-  opposed-is : (first second : List ℕ) (one two : ℕ) → Shows first one → Shows second two → (l : List ℕ) → Told 0 (OpposedAt t first second) 64 64 l → l ≡ rows (λ b k. opposes body (b, one) (k, two))
+  opposed-is : (alike first second : List ℕ) (one two : ℕ) → Shows first one → Shows second two → Told 0 (AlikeAt (t .tests) (t .variable)) 64 64 alike
+      → (l : List ℕ) → Told 0 (OpposedAt alike first second (t .constant)) 64 64 l → l ≡ rows (λ b k. opposes body (b, one) (k, two))
   unfolding opposes
-  opposed-is first second one two shows knows l told =
+  opposed-is alike first second one two shows knows same l told =
       told-rows (λ b k. opposes body (b, one) (k, two)) (λ b k h. opposes-test body (b, one) (k, two) (off k h)) l (told-as 0 _ 64 _ l told (λ b x h p k.
       let no : Bool = not (shares (getD first b 0) (getD (t .constant) b (pos 0)) (getD second k 0) (getD (t .constant) k (pos 0))) in
       p k
+      ∙ ap (λ z. z && no) (same .at b h k)
       ∙ alike-two (bit (t .tests) b) (bit (t .tests) k) _ _ no (eqb-swap (getD (t .variable) k 0) (getD (t .variable) b 0))
       ∙ ap₂ (λ p q. (p && q) && (eqb (getD (t .variable) b 0) (getD (t .variable) k 0) && no)) (test-bit b) (test-bit k)
       ∙ both-tests b k _ _ (λ e d.
@@ -105,8 +107,8 @@ module _ (body : Body) (size : length (body .blocks) ≡ 64) (c : Columns) (show
 
   opposed-edges : (first : List ℕ) (way : ℕ) → Shows first way → (r : Edges) → OpposedOf t first r → r ≡ edgeRows (λ b e. opposes body (b, way) e)
   opposed-edges first way shows r o = λ i. record {
-    jump = opposed-is first (t .jump) way 1 shows by-jump (r .jump) (o .jumps) i;
-    fall = opposed-is first (t .fall) way 2 shows by-fall (r .fall) (o .falls) i;
+    jump = opposed-is (o .alike) first (t .jump) way 1 shows by-jump (o .alikes) (r .jump) (o .jumps) i;
+    fall = opposed-is (o .alike) first (t .fall) way 2 shows by-fall (o .alikes) (r .fall) (o .falls) i;
   }
 
   -- ---- the rest

@@ -18,6 +18,7 @@ use Rattle.lower_laws.specs.Endings.{target}
 use Rattle.sets.specs.declared.Edges.{Edges}
 use Rattle.local_sets.specs.declared.Tests.{Tests}
 use Rattle.local_sets.specs.declared.Columns.{Columns}
+use Rattle.local_sets.specs.declared.Marks.{Marks}
 use Rattle.local_sets.specs.declared.Hits.{Hits}
 use Rattle.local_sets.specs.declared.EffectRows.{EffectRows}
 
@@ -90,6 +91,12 @@ pub record HitsOf (t : Tests) (effects : List Effect) (h : Hits) : Type 0 where
   pub jumps : DeniedBy t (t .jump) effects (h .jump)
   pub falls : DeniedBy t (t .fall) effects (h .fall)
 
+-- whatever tests the groups are of
+abbrev pub MarksFrom : (groups jump fall : List ℕ) (constant : List ℤ) → List Effect → Marks → Type 0
+MarksFrom groups jump fall constant effects m =
+    (tests : ℕ) (variable : List ℕ) → OnVariable tests variable groups
+    → MarksOf 256 (record { tests = tests; variable = variable; jump = jump; fall = fall; constant = constant }) effects (m .on) (m .jump) (m .fall)
+
 -- whatever tests and effects the marks are of
 abbrev pub HitsFrom : (on jump fall : List ℕ) → (from own : ℕ) → Hits → Type 0
 HitsFrom on jump fall from own h = (t : Tests) (effects : List Effect) → MarksOf 256 t effects on jump fall → HitsOf t (take own (drop from effects)) h
@@ -107,16 +114,23 @@ pub record EffectRowsOf (t : Tests) (owned : List ℕ) (effects : List Effect) (
   pub jumps : Told 0 (λ b x. DeniedBy t (t .jump) (ownEffects owned effects b) x) 64 64 (r .denied .jump)
   pub falls : Told 0 (λ b x. DeniedBy t (t .fall) (ownEffects owned effects b) x) 64 64 (r .denied .fall)
 
+abbrev pub RowsFrom : (owned on jump fall : List ℕ) → EffectRows → Type 0
+RowsFrom owned on jump fall r = (t : Tests) (effects : List Effect) → MarksOf 256 t effects on jump fall → EffectRowsOf t owned effects r
+
 -- ---- edges
 
--- of the tests on the variable of test b, those whose edge by the second way no whole number meets together with b's by the first
-abbrev pub OpposedAt : Tests → (first second : List ℕ) → ℕ → ℕ → Type 0
-OpposedAt t first second b x =
-    (j : ℕ) → bit x j
-    ≡ (bit (t .tests) b && (bit (t .tests) j && eqb (getD (t .variable) j 0) (getD (t .variable) b 0)))
-    && not (shares (getD first b 0) (getD (t .constant) b (pos 0)) (getD second j 0) (getD (t .constant) j (pos 0)))
+-- the tests on the variable of test b
+abbrev pub AlikeAt : (tests : ℕ) (variable : List ℕ) → ℕ → ℕ → Type 0
+AlikeAt tests variable b x = (j : ℕ) → bit x j ≡ bit tests b && (bit tests j && eqb (getD variable j 0) (getD variable b 0))
+
+-- of those, the ones whose edge by the second way no whole number meets together with b's by the first
+abbrev pub OpposedAt : (alike first second : List ℕ) (constant : List ℤ) → ℕ → ℕ → Type 0
+OpposedAt alike first second constant b x =
+    (j : ℕ) → bit x j ≡ bit (getD alike b 0) j && not (shares (getD first b 0) (getD constant b (pos 0)) (getD second j 0) (getD constant j (pos 0)))
 
 -- by both ways of the second
 pub record OpposedOf (t : Tests) (first : List ℕ) (r : Edges) : Type 0 where
-  pub jumps : Told 0 (OpposedAt t first (t .jump)) 64 64 (r .jump)
-  pub falls : Told 0 (OpposedAt t first (t .fall)) 64 64 (r .fall)
+  pub alike : List ℕ
+  pub alikes : Told 0 (AlikeAt (t .tests) (t .variable)) 64 64 alike
+  pub jumps : Told 0 (OpposedAt alike first (t .jump) (t .constant)) 64 64 (r .jump)
+  pub falls : Told 0 (OpposedAt alike first (t .fall) (t .constant)) 64 64 (r .fall)

@@ -16,7 +16,7 @@ use Rattle.form.specs.Conflict.{refuses, lastOn}
 use Rattle.lower_laws.specs.PairTest.{shares, equal-is}
 use Rattle.lower_laws.specs.Effects.{Reached, Within, reached-next, own-part, anyOf-last, refuses-more, touch-turn, deny-turn}
 use Rattle.local_sets.specs.declared.Tests.{Tests}
-use Rattle.local_sets.specs.Parts.{TouchedBy, DeniedBy, conditionAt, OnAt, MarkAt, HitsOf, OpposedAt, passed, ownEffects}
+use Rattle.local_sets.specs.Parts.{TouchedBy, DeniedBy, conditionAt, OnAt, MarkAt, HitsOf, passed, ownEffects}
 
 nothing : (j : ℕ) (t : Bool) → bit 0 j ≡ (t && false)
 nothing j true = bit-none j
@@ -35,15 +35,6 @@ pub mark-at :
 mark-at t relation a alike set r on decided found j =
     found j ∙ ap (λ b. b && not (shares 0 (a .constant) (getD relation j 0) (getD (t .constant) j (pos 0)))) (decided j ∙ ap (λ b. eqb (a .how) 1 && b) (on j))
 
--- the edges that an edge of block b opposes: of the tests on its variable, where it is a test
-pub opposed-at :
-    (t : Tests) (first second : List ℕ) (b : ℕ) (test : Bool) (group alike r : ℕ) → test ≡ bit (t .tests) b
-    → ((j : ℕ) → bit group j ≡ bit (t .tests) j && eqb (getD (t .variable) j 0) (getD (t .variable) b 0)) → ((j : ℕ) → bit alike j ≡ test && bit group j)
-    → ((j : ℕ) → bit r j ≡ bit alike j && not (shares (getD first b 0) (getD (t .constant) b (pos 0)) (getD second j 0) (getD (t .constant) j (pos 0)))) → OpposedAt t first second b r
-opposed-at t first second b test group alike r is on only found j =
-    found j
-    ∙ ap (λ a. a && not (shares (getD first b 0) (getD (t .constant) b (pos 0)) (getD second j 0) (getD (t .constant) j (pos 0)))) (only j ∙ ap₂ _&&_ is (on j))
-
 -- ---- one effect more
 
 module _ (t : Tests) (a : Effect) (on : ℕ) (alike : OnAt t a on) (done : List Effect) where
@@ -57,11 +48,11 @@ module _ (t : Tests) (a : Effect) (on : ℕ) (alike : OnAt t a on) (done : List 
 
   -- by one way: its relations
   pub denied-more :
-      (relation : List ℕ) (old kept found new : ℕ) → DeniedBy t relation done old → MarkAt t relation a found
-      → ((j : ℕ) → bit kept j ≡ bit old j && not (bit on j)) → ((j : ℕ) → bit new j ≡ bit kept j || bit found j) → DeniedBy t relation (done ++ (a ∷ [])) new
-  denied-more relation old kept found new was marked less both j =
-      both j
-      ∙ ap₂ _||_ (less j ∙ ap₂ (λ p q. p && not q) (was j) (is-on j))
+      (relation : List ℕ) (old found new : ℕ) → DeniedBy t relation done old → MarkAt t relation a found
+      → ((j : ℕ) → bit new j ≡ (bit old j && not (bit on j)) || bit found j) → DeniedBy t relation (done ++ (a ∷ [])) new
+  denied-more relation old found new was marked renewed j =
+      renewed j
+      ∙ ap₂ _||_ (ap₂ (λ p q. p && not q) (was j) (is-on j))
       (marked j ∙ ap₂ (λ p q. (eqb (a .how) 1 && p) && not q) (sym (alike j) ∙ is-on j) (equal-is (a .constant) (getD relation j 0) (getD (t .constant) j (pos 0))))
       ∙ deny-turn (bit (t .tests) j) (refuses (lastOn (getD (t .variable) j 0) done) (conditionAt t relation j))
       (eqb (a .variable) (getD (t .variable) j 0)) (eqb (a .how) 1) (meets (getD relation j 0) (a .constant) (getD (t .constant) j (pos 0)))

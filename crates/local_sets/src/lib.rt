@@ -10,10 +10,11 @@ ghost use Rattle.laws.specs.Terms.{bit};
 ghost use Rattle.form.specs.Form.{when};
 ghost use Rattle.form.specs.Conflict.{noBlock};
 ghost use Rattle.form.specs.Relation.{opposite};
+ghost use Rattle.words.specs.Filled.{Told};
 ghost use Rattle.lower_laws.specs.PairTest.{shares};
 ghost use Rattle.lower_laws.specs.Effects.{Within};
 ghost use Rattle.lower_laws.specs.Endings.{target};
-ghost use Rattle.local_sets.specs.Parts.{blockIn, ColumnsOf, Sized, OnVariable, MarksOf, HitsFrom, EffectRowsOf, OpposedOf};
+ghost use Rattle.local_sets.specs.Parts.{blockIn, ColumnsOf, Sized, OnVariable, MarksFrom, HitsFrom, RowsFrom, EffectRowsOf, AlikeAt, OpposedAt, OpposedOf};
 ghost use Rattle.sets.specs.Local.{localOf};
 
 // The tests of a body: which blocks they are, and each block's variable, relation by jump and by fall, and constant.
@@ -165,16 +166,17 @@ fn opposed(set: u64, relations: &[u8], constants: &[i32], relation: u8, constant
     r
 }
 
-// What each effect by itself does to the tests.
-fn marks_of(effects: [form::Effect; 256], t: Tests) -> Marks
-    requires { ⌜ Sized t ⌝ }
-    ensures { λ r. ⌜ MarksOf 256 t effects (r .on) (r .jump) (r .fall) ⌝ }
+// What each effect by itself does to the tests: `groups` has the tests on each variable, then come the tests' relations by jump and by fall, and their constants.
+fn marks_of(
+    effects: [form::Effect; 256],
+    groups: &[u64],
+    jump: &[u8],
+    fall: &[u8],
+    constant: &[i32],
+) -> Marks
+    requires { ⌜ (length (now groups) ≡ 256) × ((length (now jump) ≡ 64) × ((length (now fall) ≡ 64) × (length (now constant) ≡ 64))) ⌝ }
+    ensures { λ r. ⌜ MarksFrom (now (groups .entry)) (now (jump .entry)) (now (fall .entry)) (now (constant .entry)) effects r ⌝ }
 {
-    let variable = t.variable;
-    let jump = t.jump;
-    let fall = t.fall;
-    let constant = t.constant;
-    let groups = tests_by_variable(t.tests, &variable);
     let mut on = [0; 256];
     let mut by_jump = [0; 256];
     let mut by_fall = [0; 256];
@@ -186,8 +188,8 @@ fn marks_of(effects: [form::Effect; 256], t: Tests) -> Marks
         let alike = groups[v];
         let set = words::only(a.how == 1, alike);
         on[k] = alike;
-        by_jump[k] = opposed(set, &jump, &constant, 0, value);
-        by_fall[k] = opposed(set, &fall, &constant, 0, value);
+        by_jump[k] = opposed(set, jump, constant, 0, value);
+        by_fall[k] = opposed(set, fall, constant, 0, value);
         k += 1;
     }
     Marks {
@@ -210,8 +212,8 @@ fn hits_of(on: &[u64], jump: &[u64], fall: &[u64], from: usize, own: usize) -> H
         let i = from + k;
         let alike = on[i];
         touched = words::either(touched, alike);
-        by_jump = words::either(words::less(by_jump, alike), jump[i]);
-        by_fall = words::either(words::less(by_fall, alike), fall[i]);
+        by_jump = words::renewed(by_jump, alike, jump[i]);
+        by_fall = words::renewed(by_fall, alike, fall[i]);
         k += 1;
     }
     Hits {
@@ -231,14 +233,10 @@ fn within(from: usize, own: usize) -> usize
 }
 
 // The effects block by block, each block having so many as `owned` says.
-fn effect_rows(owned: [usize; 64], effects: [form::Effect; 256], t: Tests) -> EffectRows
-    requires { ⌜ Sized t ⌝ }
-    ensures { λ r. ⌜ EffectRowsOf t owned effects r ⌝ }
+fn effect_rows(owned: &[usize], on: &[u64], jump: &[u64], fall: &[u64]) -> EffectRows
+    requires { ⌜ (length (now owned) ≡ 64) × ((length (now on) ≡ 256) × ((length (now jump) ≡ 256) × (length (now fall) ≡ 256))) ⌝ }
+    ensures { λ r. ⌜ RowsFrom (now (owned .entry)) (now (on .entry)) (now (jump .entry)) (now (fall .entry)) r ⌝ }
 {
-    let marks = marks_of(effects, t);
-    let on = marks.on;
-    let jump = marks.jump;
-    let fall = marks.fall;
     let mut touched = [0; 64];
     let mut by_jump = [0; 64];
     let mut by_fall = [0; 64];
@@ -246,7 +244,7 @@ fn effect_rows(owned: [usize; 64], effects: [form::Effect; 256], t: Tests) -> Ef
     let mut b = 0;
     while b < 64 {
         let own = within(from, owned[b]);
-        let h = hits_of(&on, &jump, &fall, from, own);
+        let h = hits_of(on, jump, fall, from, own);
         touched[b] = h.touched;
         by_jump[b] = h.jump;
         by_fall[b] = h.fall;
@@ -260,34 +258,67 @@ fn effect_rows(owned: [usize; 64], effects: [form::Effect; 256], t: Tests) -> Ef
     EffectRows { touched, denied }
 }
 
-// The edges that each test's edge by one way conflicts with, that way's relations being `first`: those of the tests on its variable whose condition no whole number
-// meets together with its own.
-fn opposed_edges(first: [u8; 64], t: Tests) -> sets::Edges
+// What the blocks' effects do to the tests.
+fn effects_by(owned: [usize; 64], effects: [form::Effect; 256], t: Tests) -> EffectRows
     requires { ⌜ Sized t ⌝ }
-    ensures { λ r. ⌜ OpposedOf t first r ⌝ }
+    ensures { λ r. ⌜ EffectRowsOf t owned effects r ⌝ }
 {
-    let tests = t.tests;
     let variable = t.variable;
     let jump = t.jump;
     let fall = t.fall;
     let constant = t.constant;
-    let groups = tests_by_variable(tests, &variable);
-    let mut by_jump = [0; 64];
-    let mut by_fall = [0; 64];
+    let groups = tests_by_variable(t.tests, &variable);
+    let marks = marks_of(effects, &groups, &jump, &fall, &constant);
+    let on = marks.on;
+    let by_jump = marks.jump;
+    let by_fall = marks.fall;
+    effect_rows(&owned, &on, &by_jump, &by_fall)
+}
+
+// For each test, the tests on its variable.
+fn alike_rows(tests: u64, variable: &[u8]) -> [u64; 64]
+    requires { ⌜ length (now variable) ≡ 64 ⌝ }
+    ensures { λ r. ⌜ Told 0 (AlikeAt tests (now (variable .entry))) 64 64 r ⌝ }
+{
+    let groups = tests_by_variable(tests, variable);
+    let mut r = [0; 64];
     let mut b = 0;
     while b < 64 {
         let v = variable[b] as usize;
-        let alike = words::only(words::has(tests, b), groups[v]);
-        let relation = first[b];
-        let value = constant[b];
-        by_jump[b] = opposed(alike, &jump, &constant, relation, value);
-        by_fall[b] = opposed(alike, &fall, &constant, relation, value);
+        r[b] = words::only(words::has(tests, b), groups[v]);
         b += 1;
     }
-    sets::Edges {
-        jump: by_jump,
-        fall: by_fall,
+    r
+}
+
+// Of those, the ones whose relation among the second no whole number meets together with the test's own among the first.
+fn opposed_rows(alike: &[u64], first: &[u8], second: &[u8], constant: &[i32]) -> [u64; 64]
+    requires { ⌜ (length (now alike) ≡ 64) × ((length (now first) ≡ 64) × ((length (now second) ≡ 64) × (length (now constant) ≡ 64))) ⌝ }
+    ensures { λ r. ⌜ Told 0 (OpposedAt (now (alike .entry)) (now (first .entry)) (now (second .entry)) (now (constant .entry))) 64 64 r ⌝ }
+{
+    let mut r = [0; 64];
+    let mut b = 0;
+    while b < 64 {
+        let value = constant[b];
+        r[b] = opposed(alike[b], second, constant, first[b], value);
+        b += 1;
     }
+    r
+}
+
+// The edges that each test's edge by one way conflicts with, that way's relations being `first`.
+fn opposed_edges(first: [u8; 64], t: Tests) -> sets::Edges
+    requires { ⌜ Sized t × (length first ≡ 64) ⌝ }
+    ensures { λ r. ⌜ OpposedOf t first r ⌝ }
+{
+    let variable = t.variable;
+    let by_jump = t.jump;
+    let by_fall = t.fall;
+    let constant = t.constant;
+    let alike = alike_rows(t.tests, &variable);
+    let jump = opposed_rows(&alike, &first, &by_jump, &constant);
+    let fall = opposed_rows(&alike, &first, &by_fall, &constant);
+    sets::Edges { jump, fall }
 }
 
 pub fn local_of(body: form::Body) -> sets::Local
@@ -299,7 +330,7 @@ pub fn local_of(body: form::Body) -> sets::Local
     let t = columns.tests;
     let targets = columns.targets;
     let owned = columns.owned;
-    let e = effect_rows(owned, effects, t);
+    let e = effects_by(owned, effects, t);
     let jump = t.jump;
     let fall = t.fall;
     let jumping = opposed_edges(jump, t);

@@ -12,9 +12,8 @@ use Rattle.form.specs.declared.Block.{Block}
 use Rattle.form.specs.Conflict.{noBlock}
 use Rattle.form.specs.Relation.{opposite}
 use Rattle.lower_laws.specs.Blocks.{taken, beyond}
-use Rattle.words.specs.Filled.{Upto, upto-none, upto-more, upto-end, Told, told-none, told-more, told-end}
+use Rattle.words.specs.Filled.{in-room, fits-4, fits-8, fits-next, below-256, next-within, less-left, Upto, upto-none, upto-more, upto-end, Told, told-none, told-more, told-end}
 use Rattle.local_sets.specs.Parts.{blockIn, jumpOf, fallOf}
-use borrow.Author.Needs.{needs}
 use Rattle.local_sets.proofs.columns_of.Statement.{statement}
 use Rattle.local_sets.proofs.columns_of.Tie as tie
 
@@ -46,6 +45,13 @@ loop-holds c = (
   told-none _ _ _ _ refl,
 )
 
+-- the place of the last writes
+place : tie.Need-array-write-owned Inv-loop μ-loop
+place c = c .before .before .before .before .before .before .before .before .before .before .before .before .loop-test .taken
+
+bytes : tie.Need-mul-owned Inv-loop μ-loop
+bytes c = fits-8 (below-256 (place c))
+
 loop-again : tie.Need-loop-again Inv-loop μ-loop
 loop-again c =
     let led = c .before .before .before in
@@ -53,20 +59,22 @@ loop-again c =
     let opposed = told .before in
     let put = opposed .before in
     let read = put .before .before in
-    let at = read .before .before .before in
+    let inner = read .before .before in
+    let at = inner .before in
+    let below = inner .loop-test .taken in
     let start = at .before in
     let size : length (start .args .t2) ≡ 64 = start .good .1 .0 .1 .0 .1 in
-    let own = read .own-block .ensures ∙ taken (start .args .count) (start .args .t2) (at .loop .i) _ noBlock (omega arith) in
+    let own = read .own-block .ensures ∙ taken (start .args .count) (start .args .t2) (at .loop .i) _ noBlock (in-room size below) in
     let fits : SFits w32 (read .own-block .result .constant) = record { sfits = told .struct-told .given .1 .1 .1 .1 .1 .1 .0 .1 } in (
-      omega arith,
+      next-within below,
       upto-more (λ k. eqb (blockIn (start .args .count) (start .args .t2) k .ending) 3) _ _ _ _ (at .loop .inv .1) (ap (λ (k : Block). eqb (k .ending) 3) own) (put .put .ensures),
-      told-more _ _ _ _ _ _ (omega arith) (at .loop .inv .2) (ap (λ (k : Block). k .variable) own),
-      told-more _ _ _ _ _ _ (omega arith) (at .loop .inv .3) (ap (λ (k : Block). k .relation) own),
-      told-more _ _ _ _ _ _ (omega arith) (at .loop .inv .4) (opposed .opposite .ensures ∙ ap (λ (k : Block). opposite (k .relation)) own),
-      told-more _ _ _ _ _ _ (omega arith) (at .loop .inv .5) (toZ-ofZ fits ∙ ap (λ (k : Block). k .constant) own),
-      told-more _ _ _ _ _ _ (omega arith) (at .loop .inv .6) (led .target .ensures ∙ ap jumpOf own),
-      told-more _ _ _ _ _ _ (omega arith) (at .loop .inv .7) (c .target2 .ensures ∙ ap fallOf own),
-      told-more _ _ _ _ _ _ (omega arith) (at .loop .inv .8) (ap (λ (k : Block). k .effects) own),
+      told-more _ _ _ _ _ _ below (at .loop .inv .2) (ap (λ (k : Block). k .variable) own),
+      told-more _ _ _ _ _ _ below (at .loop .inv .3) (ap (λ (k : Block). k .relation) own),
+      told-more _ _ _ _ _ _ below (at .loop .inv .4) (opposed .opposite .ensures ∙ ap (λ (k : Block). opposite (k .relation)) own),
+      told-more _ _ _ _ _ _ below (at .loop .inv .5) (toZ-ofZ fits ∙ ap (λ (k : Block). k .constant) own),
+      told-more _ _ _ _ _ _ below (at .loop .inv .6) (led .target .ensures ∙ ap jumpOf own),
+      told-more _ _ _ _ _ _ below (at .loop .inv .7) (c .target2 .ensures ∙ ap fallOf own),
+      told-more _ _ _ _ _ _ below (at .loop .inv .8) (ap (λ (k : Block). k .effects) own),
     )
 
 returns : tie.Need-returns Inv-loop μ-loop
@@ -93,6 +101,6 @@ returns c =
 pub columns-of-spec : {M : Type 1} → statement M
 columns-of-spec =
     tie.close
-    (tie.spec Inv-loop μ-loop loop-holds (λ c. omega arith) (λ c. omega arith) (λ c κs. search needs) (λ c κs. omega arith) (λ c. omega arith) (λ c. omega arith) (λ c κs. search needs)
-    (λ c. omega arith) (λ c. omega arith) (λ c. omega arith) (λ c κs. search needs) (λ c. omega arith) (λ c. omega arith) (λ c κs. search needs) (λ c. omega arith) (λ c. omega arith)
-    (λ c. omega arith) (λ c. omega arith) (λ c. omega arith) (λ c. omega arith) loop-again returns)
+    (tie.spec Inv-loop μ-loop loop-holds (λ c. omega arith) (λ c. c .loop-test .taken) (λ _ _. tt) (λ c κs. c .before .before .before .loop-test .taken) (λ c. c .before .before .before .before .loop-test .taken) (λ c. c .before .before .before .before .loop-test .taken) (λ _ _. tt) (λ c. c .before .before .before .before .before .loop-test .taken)
+    (λ c. fits-4 (below-256 (c .before .before .before .before .before .before .loop-test .taken))) (λ c. c .before .before .before .before .before .before .loop-test .taken) (λ _ _. tt) (λ c. fits-8 (below-256 (c .before .before .before .before .before .before .before .before .before .loop-test .taken))) (λ c. c .before .before .before .before .before .before .before .before .before .loop-test .taken) (λ _ _. tt)
+    bytes place bytes place (λ c. fits-next (below-256 (place c))) (λ c. less-left 64 (place c)) loop-again returns)

@@ -1,12 +1,13 @@
 -- `local_sets::hits_of` meets its contract. The loop's invariant: the words are those of the first k effects. The measure is what is left of the effects.
 use mathlib.Core.Path.{_≡_}
 use mathlib.Core.List.{List}
-use Prim.Native.Nat.{_+_, _-_, _≤_}
+use Prim.Native.Nat.{ℕ, _+_, _-_, _≤_, _<_}
 use native.Mathlib.Omega.{arith}
 use lib.ListN.{length, getD, take, drop}
 use Rattle.form.specs.declared.Effect.{Effect}
 use Rattle.form.specs.Form.{zeroEffect}
 use Rattle.lower_laws.specs.Effects.{take-next}
+use Rattle.words.specs.Filled.{in-room}
 use Rattle.local_sets.specs.Parts.{HitsFrom}
 use Rattle.local_sets.specs.Turns.{hits-none, touched-more, denied-more}
 use borrow.Author.Needs.{needs}
@@ -23,13 +24,15 @@ abbrev μ-loop : tie.MeasureT-loop
 loop-holds : tie.Need-loop-holds Inv-loop μ-loop
 loop-holds c = (omega arith, λ t effects m. hits-none t)
 
+inside : (from k own : ℕ) → from + own ≤ 256 → k < own → from + k < 256
+inside from k own room h = omega arith
+
 loop-again : tie.Need-loop-again Inv-loop μ-loop
 loop-again c =
-    let fell = c .before .before in
-    let jumped = fell .before in
-    let left = jumped .before .before in
-    let touched = left .before in
-    let at = touched .before .before .before in
+    let jumped = c .before .before in
+    let touched = jumped .before .before in
+    let inner = touched .before .before in
+    let at = inner .before in
     let start = at .before .before .before .before in
     let i = start .args .from + at .loop .k in (
       omega arith,
@@ -37,12 +40,12 @@ loop-again c =
           let was = at .loop .inv .1 t effects m in
           let a : Effect = getD effects i zeroEffect in
           let done : List Effect = take (at .loop .k) (drop (start .args .from) effects) in
-          let inside : i ≤ 255 = omega (arith, start .pre .1, touched .before .before .loop-test .taken) in
-          rw (take-next effects (start .args .from) (at .loop .k) zeroEffect (omega (arith, m .all)))
+          let in-all = inside (start .args .from) (at .loop .k) (start .args .own) (start .pre .1) (inner .loop-test .taken) in
+          rw (take-next effects (start .args .from) (at .loop .k) zeroEffect (in-room (m .all) in-all))
           (record {
-            touched = touched-more t a _ (m .ons .at i (omega arith)) done _ _ (was .touched) (touched .either .ensures);
-            jumps = denied-more t a _ (m .ons .at i (omega arith)) done (t .jump) _ _ _ _ (was .jumps) (m .jumps .at i (omega arith)) (left .less .ensures) (jumped .either2 .ensures);
-            falls = denied-more t a _ (m .ons .at i (omega arith)) done (t .fall) _ _ _ _ (was .falls) (m .falls .at i (omega arith)) (fell .less2 .ensures) (c .either3 .ensures);
+            touched = touched-more t a _ (m .ons .at i in-all) done _ _ (was .touched) (touched .either .ensures);
+            jumps = denied-more t a _ (m .ons .at i in-all) done (t .jump) _ _ _ (was .jumps) (m .jumps .at i in-all) (jumped .renewed .ensures);
+            falls = denied-more t a _ (m .ons .at i in-all) done (t .fall) _ _ _ (was .falls) (m .falls .at i in-all) (c .renewed2 .ensures);
           }),
     )
 
@@ -54,5 +57,5 @@ returns c =
 pub hits-of-spec : {M : Type 1} → statement M
 hits-of-spec =
     tie.close
-    (tie.spec Inv-loop μ-loop loop-holds (λ c. omega arith) (λ c. omega arith) (λ c. omega arith) (λ _ _. tt) (λ _ _. tt) (λ c. omega arith) (λ c. omega arith) (λ _ _. tt) (λ _ _. tt)
+    (tie.spec Inv-loop μ-loop loop-holds (λ c. omega arith) (λ c. omega arith) (λ c. omega arith) (λ _ _. tt) (λ c. omega arith) (λ c. omega arith) (λ _ _. tt)
     (λ c. omega arith) (λ c. omega arith) (λ _ _. tt) (λ c. omega arith) (λ c. omega arith) loop-again returns)
