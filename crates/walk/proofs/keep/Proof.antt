@@ -1,6 +1,7 @@
 -- `walk::keep` meets its contract.
 use mathlib.Core.Path.{refl}
 use mathlib.Core.Logic.{⊎-elim}
+use native.Mathlib.Omega.{arith}
 use Rattle.walk.specs.Terms.{carriedAt}
 use Rattle.walk.specs.Laws.{kept-old, kept-new}
 use borrow.Author.Needs.{needs}
@@ -14,7 +15,7 @@ element-copy-out-if2 : tie.Need-element-copy-out-if2
 element-copy-out-if2 c = search needs
 
 returns : tie.Need-returns
-returns c = (refl, kept-old (c .before .before .before .before .before .args .found .now) (carriedAt (c .before .before .before .before .before .args .way)) (c .before .before .before .if1 .taken) (c .if2 .taken))
+returns c = (refl, kept-old (c .before .before .before .before .before .args .found .now) (carriedAt (c .before .before .before .before .before .args .way)) (c .before .before .before .if1 .taken) (omega arith))
 
 element-copy-out-t5 : tie.Need-element-copy-out-t5
 element-copy-out-t5 c = search needs
