@@ -1,5 +1,5 @@
--- The terms of the full walk's contracts: what its words say in the theory's terms, and what each turn of the recursion does. Definitions only. Rests on theory's
--- Plan, Walk and Edges.
+-- The terms of the full walk's contracts: what its words say in the theory's terms, and what each turn of the recursion
+-- does. Definitions only. Rests on theory's Plan, Walk and Edges.
 use mathlib.Core.Path.{_≡_}
 use mathlib.Core.Bool.{Bool, true, false, not, cond, _||_, _&&_}
 use mathlib.Core.List.{List}
@@ -30,7 +30,8 @@ bannedAt at = (at .jumps, at .falls)
 abbrev pub carriedAt : Way → Words
 carriedAt way = (way .weight, (way .jumped, way .fallen))
 
--- ---- what is found so far, in five words: 0 the number of beginnings, 1 whether there is a route (1), 2 to 4 the route kept
+-- ---- what is found so far, in five words: 0 the number of beginnings, 1 whether there is a route (1), 2 to 4 the
+-- route kept
 
 abbrev pub walkedIn : List ℕ → ℕ
 walkedIn found = getD found 0 0
@@ -62,7 +63,8 @@ pub record Barred (body : Body) (s : Key) : Type 0 where
 
 -- banned after the effects of block b
 abbrev pub Entered : List ℕ → (b : ℕ) → (s r : Key) → Type 0
-Entered plan b s r = (k side : ℕ) → IsWay side → has r (k, side) ≡ (has s (k, side) && not (bit (touchedAt plan b) k) || bit (deniedAt plan b side) k)
+Entered plan b s r = (k side : ℕ) → IsWay side
+    → has r (k, side) ≡ (has s (k, side) && not (bit (touchedAt plan b) k) || bit (deniedAt plan b side) k)
 
 -- banned after block b is left by a way
 pub record Barring (plan : List ℕ) (b way : ℕ) (s r : Key) : Type 0 where
@@ -76,8 +78,10 @@ isOpen target banned walked budget = (ltb target 64 && not banned) && not (ltb b
 
 module _ (prefers : ℕ → ℕ → Bool) where
   -- the theory's walk from block b
-  abbrev pub walkFrom : Body → (cost : ℕ → ℕ → ℕ) → (budget b : ℕ) → Key → Words → ℕ × Option Words → Option (ℕ × Option Words)
-  walkFrom body cost budget b s c a = walk (onMachine body cost) (advance cost) (tally prefers (finish cost) (body .count) budget) (body .count) b s c a
+  abbrev pub walkFrom : Body → (cost : ℕ → ℕ → ℕ) → (budget b : ℕ) → Key → Words → ℕ × Option Words
+      → Option (ℕ × Option Words)
+  walkFrom body cost budget b s c a = walk (onMachine body cost) (advance cost)
+      (tally prefers (finish cost) (body .count) budget) (body .count) b s c a
 
   -- what the recursion owes at block b: of whatever body and costs the plan is, the theory's walk
   abbrev pub Walks : List ℕ → (count budget b : ℕ) → Key → Words → (found r : List ℕ) → Type 0
@@ -87,11 +91,14 @@ module _ (prefers : ℕ → ℕ → Bool) where
 
   -- what a way of block b comes to, from what is banned in it and carried to it
   pub data Took (plan : List ℕ) (count budget b way : ℕ) (here : Key) (c : Words) (found r : List ℕ) : Type 0 where
-    stays : isOpen (targetAt plan b way) (has here (b, way)) (walkedIn found) budget ≡ false → r ≡ found → Took plan count budget b way here c found r
-    goes : isOpen (targetAt plan b way) (has here (b, way)) (walkedIn found) budget ≡ true → (next : Key) → Barring plan b way here next → (on : Words) → on ≡ advance (costAt plan) (b, way) c
+    stays : isOpen (targetAt plan b way) (has here (b, way)) (walkedIn found) budget ≡ false → r ≡ found
+        → Took plan count budget b way here c found r
+    goes : isOpen (targetAt plan b way) (has here (b, way)) (walkedIn found) budget ≡ true → (next : Key)
+        → Barring plan b way here next → (on : Words) → on ≡ advance (costAt plan) (b, way) c
         → Walks plan count budget (targetAt plan b way) next on found r → Took plan count budget b way here c found r
 
-  -- from block 0 on: over the budget, or the number of conflict-free beginnings and the first route of the preferred weight in words
+  -- from block 0 on: over the budget, or the number of conflict-free beginnings and the first route of the preferred
+  -- weight in words
   abbrev pub Searched : List ℕ → (count budget : ℕ) → List ℕ → Type 0
   Searched plan count budget r =
       (body : Body) (cost : ℕ → ℕ → ℕ) → Planned body cost plan → Sound body → body .count ≡ count

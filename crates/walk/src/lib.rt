@@ -1,6 +1,7 @@
-// The full walk: by recursion from block to block, jump before fall; an edge that makes a conflict is not taken. It works on the plan of a body alone (theory's
-// Plan). What its words and turns mean is in specs/Terms.antt. What goes down the recursion is plain words, and what is found stands in lent words: so a step is
-// a few registers, and nothing is copied back.
+// The full walk: by recursion from block to block, jump before fall; an edge that makes a conflict is not taken. It
+// works on the plan of a body alone (theory's Plan). What its words and turns mean is in specs/Terms.antt. What goes
+// down the recursion is plain words, and what is found stands in lent words: so a step is a few registers, and nothing
+// is copied back.
 ghost use mathlib.Core.Path.{_≡_};
 ghost use Prim.Native.Nat.{ℕ, _+_, _^_, _<_};
 ghost use Rattle.laws.specs.Terms.{bit, heavier};
@@ -9,7 +10,8 @@ ghost use Rattle.form.specs.Conflict.{Sound};
 ghost use Rattle.theory.specs.Walk.{keepFirst, tally};
 ghost use Rattle.theory.specs.WalkWords.{advance, finish};
 ghost use Rattle.theory.specs.Plan.{costAt, Planned, PlanOf};
-ghost use Rattle.walk.specs.Terms.{bannedAt, carriedAt, walkedIn, routeIn, soFar, tallied, Standing, Entered, Barring, Walks, isOpen, Searched};
+ghost use Rattle.walk.specs.Terms.{bannedAt, carriedAt, walkedIn, routeIn, soFar, tallied, Standing, Entered};
+ghost use Rattle.walk.specs.Terms.{Barring, Walks, isOpen, Searched};
 ghost use Rattle.walk.specs.Answer.{said, walkOutcome, WalkOwed};
 ghost use Rattle.walk.specs.declared.WalkAnswer.the-variants.{Refused};
 use plan::Way;
@@ -63,7 +65,8 @@ fn step(plan: &[u64; 1024], b: usize, way: usize, at: Way) -> Way
 
 // A whole route is kept where it is the first, or heavier than the one kept.
 fn keep(way: Way, found: &mut [u64; 5])
-    ensures { λ _. ⌜ (walkedIn (now (found .exit)) ≡ walkedIn (now (found .entry))) × (routeIn (now (found .exit)) ≡ keepFirst heavier (routeIn (now (found .entry))) (carriedAt way)) ⌝ }
+    ensures { λ _. ⌜ (walkedIn (now (found .exit)) ≡ walkedIn (now (found .entry))) ×
+        (routeIn (now (found .exit)) ≡ keepFirst heavier (routeIn (now (found .entry))) (carriedAt way)) ⌝ }
 {
     if found[1] == 1 {
         if way.weight <= found[2] {
@@ -76,7 +79,9 @@ fn keep(way: Way, found: &mut [u64; 5])
 // One more beginning, that ends in block b; in the last block it is a route.
 fn visit(plan: &[u64; 1024], count: usize, b: usize, way: Way, found: &mut [u64; 5])
     requires { ⌜ (b < 64) × ((way .weight + costAt (now plan) b 0 < 2 ^ 64) × (walkedIn (now found) + 1 < 2 ^ 64)) ⌝ }
-    ensures { λ _. ⌜ ((budget : ℕ) → tallied budget (now (found .exit)) ≡ tally heavier (finish (costAt (now (plan .entry)))) count budget (soFar (now (found .entry))) (b, carriedAt way)) ⌝ }
+    ensures { λ _. ⌜ ((budget : ℕ) → tallied budget (now (found .exit)) ≡
+        tally heavier (finish (costAt (now (plan .entry)))) count budget (soFar (now (found .entry)))
+        (b, carriedAt way)) ⌝ }
 {
     *found = [found[0] + 1, found[1], found[2], found[3], found[4]];
     if b + 1 == count {
@@ -105,7 +110,8 @@ fn walk_from(
     found: &mut [u64; 5],
 )
     requires { ⌜ Standing (now plan) count budget b weight (now found) ⌝ }
-    ensures { λ _. ⌜ Walks heavier (now (plan .entry)) count budget b (jumps, falls) (weight, (jumped, fallen)) (now (found .entry)) (now (found .exit)) ⌝ }
+    ensures { λ _. ⌜ Walks heavier (now (plan .entry)) count budget b (jumps, falls) (weight, (jumped, fallen))
+        (now (found .entry)) (now (found .exit)) ⌝ }
 {
     let here = enter(plan, b, Banned { jumps, falls });
     let way = Way {
@@ -163,8 +169,8 @@ fn search(plan: &[u64; 1024], count: usize, budget: u64) -> [u64; 5]
     found
 }
 
-// The full walk's answer: the loop count, the weight of the first heaviest route, count times weight, and the number of conflict-free beginnings; or the
-// refusal's number and place.
+// The full walk's answer: the loop count, the weight of the first heaviest route, count times weight, and the number of
+// conflict-free beginnings; or the refusal's number and place.
 pub enum WalkAnswer {
     Walked {
         iterations: u64,
@@ -193,7 +199,9 @@ fn walk_planned(
     route: &mut [u8],
 ) -> WalkAnswer
     requires { ⌜ PlanOf (now plan) count × ((iterations < 4294967296) × (budget < 4294967296)) ⌝ }
-    ensures { λ r. ⌜ ((body : Body) (cost : ℕ → ℕ → ℕ) → Planned body cost (now (plan .entry)) → Sound body → body .count ≡ count → (said r, now (route .exit)) ≡ walkOutcome body (record { prefers = heavier; cost = cost }) budget (now (route .entry)) iterations) ⌝ }
+    ensures { λ r. ⌜ ((body : Body) (cost : ℕ → ℕ → ℕ) → Planned body cost (now (plan .entry)) → Sound body
+        → body .count ≡ count → (said r, now (route .exit)) ≡
+        walkOutcome body (record { prefers = heavier; cost = cost }) budget (now (route .entry)) iterations) ⌝ }
 {
     if route.len() < count {
         return refuse(42, count);
@@ -216,8 +224,8 @@ fn walk_planned(
     }
 }
 
-// The full walk, for any bytes: the loop count, the first heaviest conflict-free route with its bytes, count times weight, and walked; or a refusal, which changes
-// no lent byte.
+// The full walk, for any bytes: the loop count, the first heaviest conflict-free route with its bytes, count times
+// weight, and walked; or a refusal, which changes no lent byte.
 pub fn walk(form: &[u8], budget: u32, route: &mut [u8]) -> WalkAnswer
     ensures { λ r. ⌜ WalkOwed (now (form .entry)) budget (now (route .entry)) (said r, now (route .exit)) ⌝ }
 {

@@ -1,20 +1,23 @@
--- The proof of the cycle of calls {walk_from}. The measure is the number of blocks left to the end. A turn is the theory's turn (Laws, `walks`): the block is
--- visited, then each of its two ways is taken where it is open.
+-- The proof of the cycle of calls {walk_from}. The measure is the number of blocks left to the end. A turn is the
+-- theory's turn (Laws, `walks`): the block is visited, then each of its two ways is taken where it is open.
 use borrow.Author.Needs.{needs}
-use mathlib.Core.Path.{_≡_, refl, sym, ap, subst, _∙_}
+use mathlib.Core.Path.{_≡_, refl, ap, subst, _∙_}
+use mathlib.Core.Bool.{Bool, true}
 use mathlib.Core.Logic.{⊎-elim}
 use mathlib.Core.List.{List}
-use Prim.Native.Nat.{ℕ, _-_, _<_}
+use Prim.Native.Nat.{ℕ, _+_, _-_, _<_}
 use native.Mathlib.Omega.{arith}
 use borrow.Fn.Kinds.{In}
 use borrow.Fn.PlainCycle.{Measures, is, falls, and}
 use Rattle.laws.specs.Terms.{heavier}
-use Rattle.theory.specs.SweepWords.{Words}
+use Rattle.theory.specs.Row.{Key}
 use Rattle.theory.specs.Edges.{has}
-use Rattle.theory.specs.Plan.{targetAt}
-use Rattle.walk.specs.Terms.{bannedAt, walkedIn, isOpen, Walks, Took}
-use Rattle.walk.specs.Laws.{by-jump, by-fall, walks, open-is, took-goes, jump-edge, fall-edge, costs-few, onward, took-none}
+use Rattle.theory.specs.SweepWords.{Words}
+use Rattle.theory.specs.Plan.{targetAt, costAt, IsWay}
+use Rattle.walk.specs.Terms.{bannedAt, walkedIn, isOpen, Standing, Walks, Took}
 use Rattle.walk.specs.Terms.Took.{stays}
+use Rattle.walk.specs.Laws.{by-jump, by-fall, jump-edge, fall-edge, walks, open-is, took-goes, took-none}
+use Rattle.walk.specs.Laws.{costs-few, onward}
 use Rattle.walk.proofs.walk_from.Reads as walk-from
 use Rattle.walk.proofs.walk_from.Kinds as walk-from-kinds
 use Rattle.walk.proofs.+walk_from.Lts-walk_from as lts
@@ -55,6 +58,78 @@ claims t = (
   walk-from.Post,
 )
 
+-- ---- the places: at the start; once the block is visited; once the test of the jump, and of the fall, is made
+
+abbrev Begun : ℕ → Type 0
+Begun t = lts.Start (claims t) (at t) walk-from.Post
+
+abbrev Visited : ℕ → Type 0
+Visited t = lts.After-visit (claims t) (at t) walk-from.Post
+
+abbrev Jumping : ℕ → Type 0
+Jumping t = lts.After-open (claims t) (at t) walk-from.Post
+
+abbrev Falling : ℕ → Type 0
+Falling t = lts.After-open2 (claims t) (at t) walk-from.Post
+
+-- the start, what is banned in the block, what is carried to it, and what is found with its visit
+abbrev begun : (t : ℕ) → Visited t → Begun t
+begun t c = c .before .before .before
+
+abbrev here : (t : ℕ) → Visited t → Key
+here t c = bannedAt (c .before .before .enter .result)
+
+abbrev carried : (t : ℕ) → Visited t → Words
+carried t c = (begun t c .args .weight, (begun t c .args .jumped, begun t c .args .fallen))
+
+abbrev first : (t : ℕ) → Visited t → List ℕ
+first t c = c .visit .last .1 .1 .1 .1 .0
+
+abbrev jumping : (t : ℕ) → Jumping t → Visited t
+jumping t c = c .before .before .before .before .before
+
+abbrev falling : (t : ℕ) → Falling t → Visited t
+falling t c = c .before .before .before .before .before .before .before .before .before .before
+
+-- what is found with the jump
+abbrev second : (t : ℕ) → Falling t → List ℕ
+second t c = c .before .before .before .before .if2 .found
+
+-- ---- a turn
+
+-- whether a way is open, where this is found
+abbrev Open : (t : ℕ) → Visited t → (way : ℕ) → List ℕ → Bool → Type 0
+Open t c way found o =
+    let a = begun t c .args in
+    isOpen (targetAt (a .plan .now) (a .b) way) (has (here t c) (a .b, way)) (walkedIn found) (a .budget) ≡ o
+
+-- what a way comes to
+abbrev Takes : (t : ℕ) → Visited t → (way : ℕ) → (found r : List ℕ) → Type 0
+Takes t c way found r =
+    let a = begun t c .args in
+    Took heavier (a .plan .now) (a .count) (a .budget) (a .b) way (here t c) (carried t c) found r
+
+turn : (t : ℕ) (c : Visited t) (jumped r : List ℕ) → Takes t c 1 (first t c) jumped → Takes t c 2 jumped r
+    → let a = begun t c .args in
+    Walks heavier (a .plan .now) (a .count) (a .budget) (a .b) (a .jumps, a .falls) (carried t c) (a .found .now) r
+turn t c jumped r =
+    let a = begun t c .args in
+    walks heavier (begun t c .pre .1 .inside) (a .jumps, a .falls) (here t c) (carried t c)
+    (c .before .before .enter .ensures) (a .found .now) (first t c) jumped r (c .visit .ensures (a .budget))
+
+-- what a call at the target asks
+call : (t : ℕ) (c : Visited t) (way : ℕ) → IsWay way → (target : ℕ)
+    → target ≡ targetAt (begun t c .args .plan .now) (begun t c .args .b) way
+    → (found : List ℕ) → Open t c way found true → (on : ℕ)
+    → on ≡ begun t c .args .weight + costAt (begun t c .args .plan .now) (begun t c .args .b) way
+    → let a = begun t c .args in
+    (a .count - target < t) × Standing (a .plan .now) (a .count) (a .budget) target on found
+call t c way w target e found o on more =
+    let next = onward (begun t c .pre .1) way w target e (here t c) found o on more in
+    (subst (λ (j : ℕ). begun t c .args .count - target < j) (begun t c .pre .0) (next .0), next .1)
+
+-- ---- the block
+
 enter-requires : (t : ℕ) → lts.Need-enter-requires (claims t) (at t) walk-from.Post
 enter-requires t c κs = costs-few (c .pre .1) 0 .0
 
@@ -65,23 +140,21 @@ visit-requires t c κs =
     (few .0, (few .2, omega (arith, pre .counted, pre .fits)))
 
 add-if1 : (t : ℕ) → lts.Need-add-if1 (claims t) (at t) walk-from.Post
-add-if1 t c = record { fits = omega (arith, costs-few (c .before .before .before .pre .1) 0 .0) }
+add-if1 t c = record { fits = omega (arith, costs-few (begun t c .pre .1) 0 .0) }
 
--- the last block has no way on
 returns : (t : ℕ) → lts.Need-returns (claims t) (at t) walk-from.Post
 returns t c =
-    let start = c .before .before .before .before in
-    let pre = start .pre .1 in
-    let here = bannedAt (c .before .before .before .enter .result) in
-    let way : Words = (start .args .weight, (start .args .jumped, start .args .fallen)) in
-    let first = c .before .visit .last .1 .1 .1 .1 .0 in
-    walks heavier (pre .inside) (start .args .jumps, start .args .falls) here way (c .before .before .before .enter .ensures) (start .args .found .now) first first first (c .before .visit .ensures (start .args .budget))
-    (took-none pre 1 by-jump here way first (c .if1 .taken)) (took-none pre 2 by-fall here way first (c .if1 .taken))
+    let v = c .before in
+    let none = took-none (begun t v .pre .1) in
+    turn t v (first t v) (first t v) (none 1 by-jump (here t v) (carried t v) (first t v) (c .if1 .taken))
+    (none 2 by-fall (here t v) (carried t v) (first t v) (c .if1 .taken))
+
+-- ---- the jump
 
 target-requires : (t : ℕ) → lts.Need-target-requires (claims t) (at t) walk-from.Post
 target-requires t c κs =
-    let pre = c .before .before .before .before .before .pre .1 in
-    (pre .of .planned .size, (costs-few pre 0 .0, by-jump .1))
+    let pre = begun t (c .before .before) .pre .1 in
+    (pre .of .planned .size, (costs-few pre 0 .0, omega arith))
 
 element-copy-out-open : (t : ℕ) → lts.Need-element-copy-out-open (claims t) (at t) walk-from.Post
 element-copy-out-open t c = search needs
@@ -89,44 +162,43 @@ element-copy-out-open t c = search needs
 open-requires : (t : ℕ) → lts.Need-open-requires (claims t) (at t) walk-from.Post
 open-requires t c κs = search needs
 
+jump-open : (t : ℕ) (c : Jumping t) → Open t (jumping t c) 1 (first t (jumping t c)) (c .«open» .result)
+jump-open t c =
+    let v = jumping t c in
+    let a = begun t v .args in
+    open-is (a .plan .now) (a .b) 1 (here t v) (walkedIn (first t v)) (a .budget) (c .before .before .target .ensures)
+    (jump-edge (here t v) (a .b)) (c .«open» .ensures)
+
 bar-requires : (t : ℕ) → lts.Need-bar-requires (claims t) (at t) walk-from.Post
-bar-requires t c κs = (costs-few (c .before .before .before .before .before .before .before .before .before .pre .1) 1 .0, by-jump .1)
+bar-requires t c κs = (costs-few (begun t (jumping t (c .before)) .pre .1) 0 .0, omega arith)
 
 step-requires : (t : ℕ) → lts.Need-step-requires (claims t) (at t) walk-from.Post
 step-requires t c κs =
-    let few = costs-few (c .before .before .before .before .before .before .before .before .before .before .pre .1) 1 in
-    (few .0, (by-jump .1, few .2))
-
--- the jump's test
-jump-open : (t : ℕ) (c : lts.After-open (claims t) (at t) walk-from.Post)
-    → isOpen (targetAt (c .before .before .before .before .before .before .before .before .args .plan .now) (c .before .before .before .before .before .before .before .before .args .b) 1) (has (bannedAt (c .before .before .before .before .before .before .before .enter .result)) (c .before .before .before .before .before .before .before .before .args .b, 1)) (walkedIn (c .before .before .before .before .before .visit .last .1 .1 .1 .1 .0)) (c .before .before .before .before .before .before .before .before .args .budget) ≡ c .«open» .result
-jump-open t c =
-    let a = c .before .before .before .before .before .before .before .before .args in
-    let here = bannedAt (c .before .before .before .before .before .before .before .enter .result) in
-    open-is (a .plan .now) (a .b) 1 here (walkedIn (c .before .before .before .before .before .visit .last .1 .1 .1 .1 .0)) (a .budget) (c .before .before .target .ensures) (jump-edge here (a .b)) (c .«open» .ensures)
+    let few = costs-few (begun t (jumping t (c .before .before)) .pre .1) 1 in
+    (few .0, (omega arith, few .2))
 
 walk-from-requires : (t : ℕ) → lts.Need-walk-from-requires (claims t) (at t) walk-from.Post
 walk-from-requires t c κs =
-    let start = c .before .before .before .before .before .before .before .before .before .before .before .before in
-    let jump = c .before .before .before .before .before .before .target in
-    let on = onward (start .pre .1) 1 by-jump (jump .result) (jump .ensures) (bannedAt (c .before .before .before .before .before .before .before .before .before .before .before .enter .result)) (c .before .before .before .before .before .before .before .before .before .visit .last .1 .1 .1 .1 .0)
-    (jump-open t (c .before .before .before .before) ∙ c .before .before .before .if2 .taken) (c .before .step .result .weight) (ap (λ (x : Words). x .0) (c .before .step .ensures)) in
-    (subst (λ (j : ℕ). start .args .count - jump .result < j) (start .pre .0) (on .0), on .1)
+    let j = c .before .before .before .before in
+    call t (jumping t j) 1 by-jump (j .before .before .target .result) (j .before .before .target .ensures)
+    (first t (jumping t j)) (jump-open t j ∙ c .before .before .before .if2 .taken)
+    (c .before .step .result .weight) (ap (λ (x : Words). x .0) (c .before .step .ensures))
 
--- what the jump comes to
 jumped : (t : ℕ) (c : lts.Joined2 (claims t) (at t) walk-from.Post)
-    → Took heavier (c .before .before .before .before .before .before .before .before .before .args .plan .now) (c .before .before .before .before .before .before .before .before .before .args .count) (c .before .before .before .before .before .before .before .before .before .args .budget) (c .before .before .before .before .before .before .before .before .before .args .b) 1 (bannedAt (c .before .before .before .before .before .before .before .before .enter .result))
-    (c .before .before .before .before .before .before .before .before .before .args .weight, (c .before .before .before .before .before .before .before .before .before .args .jumped, c .before .before .before .before .before .before .before .before .before .args .fallen)) (c .before .before .before .before .before .before .visit .last .1 .1 .1 .1 .0) (c .if2 .found)
+    → Takes t (jumping t (c .before)) 1 (first t (jumping t (c .before))) (c .if2 .found)
 jumped t c =
     ⊎-elim
-    (λ w. took-goes (jump-open t (c .before) ∙ w .0 .taken) (c .before .before .before .target .ensures) (w .1 .ensures) (w .2 .ensures) (w .4 .ensures) (w .5))
+    (λ w. took-goes (jump-open t (c .before) ∙ w .0 .taken) (c .before .before .before .target .ensures)
+    (w .1 .ensures) (w .2 .ensures) (w .4 .ensures) (w .5))
     (λ w. stays (jump-open t (c .before) ∙ w .0 .left) (w .1))
     (c .if2 .came)
 
+-- ---- the fall
+
 target-requires-2 : (t : ℕ) → lts.Need-target-requires-2 (claims t) (at t) walk-from.Post
 target-requires-2 t c κs =
-    let pre = c .before .before .before .before .before .before .before .before .before .before .pre .1 in
-    (pre .of .planned .size, (costs-few pre 0 .0, by-fall .1))
+    let pre = begun t (jumping t (c .before .before)) .pre .1 in
+    (pre .of .planned .size, (costs-few pre 0 .0, omega arith))
 
 element-copy-out-open-2 : (t : ℕ) → lts.Need-element-copy-out-open-2 (claims t) (at t) walk-from.Post
 element-copy-out-open-2 t c = search needs
@@ -134,49 +206,43 @@ element-copy-out-open-2 t c = search needs
 open-requires-2 : (t : ℕ) → lts.Need-open-requires-2 (claims t) (at t) walk-from.Post
 open-requires-2 t c κs = search needs
 
+fall-open : (t : ℕ) (c : Falling t) → Open t (falling t c) 2 (second t c) (c .open2 .result)
+fall-open t c =
+    let v = falling t c in
+    let a = begun t v .args in
+    open-is (a .plan .now) (a .b) 2 (here t v) (walkedIn (second t c)) (a .budget) (c .before .before .target2 .ensures)
+    (fall-edge (here t v) (a .b)) (c .open2 .ensures)
+
 bar-requires-2 : (t : ℕ) → lts.Need-bar-requires-2 (claims t) (at t) walk-from.Post
-bar-requires-2 t c κs = (costs-few (c .before .before .before .before .before .before .before .before .before .before .before .before .before .before .pre .1) 2 .0, by-fall .1)
+bar-requires-2 t c κs = (costs-few (begun t (falling t (c .before)) .pre .1) 0 .0, omega arith)
 
 step-requires-2 : (t : ℕ) → lts.Need-step-requires-2 (claims t) (at t) walk-from.Post
 step-requires-2 t c κs =
-    let few = costs-few (c .before .before .before .before .before .before .before .before .before .before .before .before .before .before .before .pre .1) 2 in
-    (few .0, (by-fall .1, few .2))
-
--- the fall's test
-fall-open : (t : ℕ) (c : lts.After-open2 (claims t) (at t) walk-from.Post)
-    → isOpen (targetAt (c .before .before .before .before .before .before .before .before .before .before .before .before .before .args .plan .now) (c .before .before .before .before .before .before .before .before .before .before .before .before .before .args .b) 2) (has (bannedAt (c .before .before .before .before .before .before .before .before .before .before .before .before .enter .result)) (c .before .before .before .before .before .before .before .before .before .before .before .before .before .args .b, 2)) (walkedIn (c .before .before .before .before .if2 .found)) (c .before .before .before .before .before .before .before .before .before .before .before .before .before .args .budget) ≡ c .open2 .result
-fall-open t c =
-    let a = c .before .before .before .before .before .before .before .before .before .before .before .before .before .args in
-    let here = bannedAt (c .before .before .before .before .before .before .before .before .before .before .before .before .enter .result) in
-    open-is (a .plan .now) (a .b) 2 here (walkedIn (c .before .before .before .before .if2 .found)) (a .budget) (c .before .before .target2 .ensures) (fall-edge here (a .b)) (c .open2 .ensures)
+    let few = costs-few (begun t (falling t (c .before .before)) .pre .1) 2 in
+    (few .0, (omega arith, few .2))
 
 walk-from-requires-2 : (t : ℕ) → lts.Need-walk-from-requires-2 (claims t) (at t) walk-from.Post
 walk-from-requires-2 t c κs =
-    let start = c .before .before .before .before .before .before .before .before .before .before .before .before .before .before .before .before .before in
-    let fall = c .before .before .before .before .before .before .target2 in
-    let on = onward (start .pre .1) 2 by-fall (fall .result) (fall .ensures) (bannedAt (c .before .before .before .before .before .before .before .before .before .before .before .before .before .before .before .before .enter .result)) (c .before .before .before .before .before .before .before .before .if2 .found)
-    (fall-open t (c .before .before .before .before) ∙ c .before .before .before .if3 .taken) (c .before .step2 .result .weight) (ap (λ (x : Words). x .0) (c .before .step2 .ensures)) in
-    (subst (λ (j : ℕ). start .args .count - fall .result < j) (start .pre .0) (on .0), on .1)
+    let f = c .before .before .before .before in
+    call t (falling t f) 2 by-fall (f .before .before .target2 .result) (f .before .before .target2 .ensures)
+    (second t f) (fall-open t f ∙ c .before .before .before .if3 .taken)
+    (c .before .step2 .result .weight) (ap (λ (x : Words). x .0) (c .before .step2 .ensures))
 
--- both ways, from what the fall comes to
-both : (t : ℕ) (c : lts.After-open2 (claims t) (at t) walk-from.Post) (r : List ℕ)
-    → Took heavier (c .before .before .before .before .before .before .before .before .before .before .before .before .before .args .plan .now) (c .before .before .before .before .before .before .before .before .before .before .before .before .before .args .count) (c .before .before .before .before .before .before .before .before .before .before .before .before .before .args .budget) (c .before .before .before .before .before .before .before .before .before .before .before .before .before .args .b) 2 (bannedAt (c .before .before .before .before .before .before .before .before .before .before .before .before .enter .result))
-    (c .before .before .before .before .before .before .before .before .before .before .before .before .before .args .weight, (c .before .before .before .before .before .before .before .before .before .before .before .before .before .args .jumped, c .before .before .before .before .before .before .before .before .before .before .before .before .before .args .fallen)) (c .before .before .before .before .if2 .found) r
-    → Walks heavier (c .before .before .before .before .before .before .before .before .before .before .before .before .before .args .plan .now) (c .before .before .before .before .before .before .before .before .before .before .before .before .before .args .count) (c .before .before .before .before .before .before .before .before .before .before .before .before .before .args .budget) (c .before .before .before .before .before .before .before .before .before .before .before .before .before .args .b) (c .before .before .before .before .before .before .before .before .before .before .before .before .before .args .jumps, c .before .before .before .before .before .before .before .before .before .before .before .before .before .args .falls)
-    (c .before .before .before .before .before .before .before .before .before .before .before .before .before .args .weight, (c .before .before .before .before .before .before .before .before .before .before .before .before .before .args .jumped, c .before .before .before .before .before .before .before .before .before .before .before .before .before .args .fallen)) (c .before .before .before .before .before .before .before .before .before .before .before .before .before .args .found .now) r
-both t c r fallen =
-    let start = c .before .before .before .before .before .before .before .before .before .before .before .before .before in
-    let visit = c .before .before .before .before .before .before .before .before .before .before .visit in
-    walks heavier (start .pre .1 .inside) (start .args .jumps, start .args .falls) (bannedAt (c .before .before .before .before .before .before .before .before .before .before .before .before .enter .result)) (start .args .weight, (start .args .jumped, start .args .fallen)) (c .before .before .before .before .before .before .before .before .before .before .before .before .enter .ensures)
-    (start .args .found .now) (visit .last .1 .1 .1 .1 .0) (c .before .before .before .before .if2 .found) r (visit .ensures (start .args .budget)) (jumped t (c .before .before .before .before)) fallen
+-- ---- both
 
 returns-2 : (t : ℕ) → lts.Need-returns-2 (claims t) (at t) walk-from.Post
 returns-2 t c =
-    both t (c .before .before .before .before .before) (c .walk-from2 .last .1 .1 .1 .1 .1 .1 .1 .1 .1 .0)
-    (took-goes (fall-open t (c .before .before .before .before .before) ∙ c .before .before .before .before .if3 .taken) (c .before .before .before .before .before .before .before .target2 .ensures) (c .before .before .before .bar2 .ensures) (c .before .before .step2 .ensures) (c .walk-from2 .ensures) refl)
+    let f = c .before .before .before .before .before in
+    turn t (falling t f) (second t f) (c .walk-from2 .last .1 .1 .1 .1 .1 .1 .1 .1 .1 .0)
+    (jumped t (f .before .before .before .before))
+    (took-goes (fall-open t f ∙ c .before .before .before .before .if3 .taken) (f .before .before .target2 .ensures)
+    (c .before .before .before .bar2 .ensures) (c .before .before .step2 .ensures) (c .walk-from2 .ensures) refl)
 
 returns-3 : (t : ℕ) → lts.Need-returns-3 (claims t) (at t) walk-from.Post
-returns-3 t c = both t (c .before) (c .before .before .before .before .before .if2 .found) (stays (fall-open t (c .before) ∙ c .if3 .left) refl)
+returns-3 t c =
+    let f = c .before in
+    turn t (falling t f) (second t f) (second t f) (jumped t (f .before .before .before .before))
+    (stays (fall-open t f ∙ c .if3 .left) refl)
 
 pub +walk-from-spec : {M : Type 1} → statement M
 +walk-from-spec = close μ-walk-from λ t. lts.spec (claims t) (at t) walk-from.Post

@@ -46,15 +46,18 @@ keep-requires c κs = search needs
 returns : tie.Need-returns
 returns c budget =
     let a = c .before .before .before .before .before .before .before .before .before .before .args in
-    visit-is heavier (costAt (a .plan .now)) (a .count) budget (a .b) (carriedAt (a .way)) (a .found .now) (c .keep .last .1 .0) true
+    visit-is heavier (costAt (a .plan .now)) (a .count) budget (a .b) (carriedAt (a .way)) (a .found .now)
+    (c .keep .last .1 .0) true
     (rw (← add-one (a .b)) (eq-eqb (a .b + 1) (a .count) (c .before .before .before .if1 .taken)))
-    (c .keep .ensures .0) (c .keep .ensures .1 ∙ ap (keepFirst heavier (routeIn (a .found .now))) (c .before .before .step .ensures))
+    (c .keep .ensures .0) (c .keep .ensures .1
+    ∙ ap (keepFirst heavier (routeIn (a .found .now))) (c .before .before .step .ensures))
 
 returns-2 : tie.Need-returns-2
 returns-2 c budget =
     let a = c .before .before .before .before .before .before .before .args in
     visit-is heavier (costAt (a .plan .now)) (a .count) budget (a .b) (carriedAt (a .way)) (a .found .now)
-    ((getD (a .found .now) 0 0 + 1) ∷ getD (a .found .now) 1 0 ∷ getD (a .found .now) 2 0 ∷ getD (a .found .now) 3 0 ∷ getD (a .found .now) 4 0 ∷ []) false
+    ((getD (a .found .now) 0 0 + 1) ∷ getD (a .found .now) 1 0 ∷ getD (a .found .now) 2 0 ∷ getD (a .found .now) 3 0
+    ∷ getD (a .found .now) 4 0 ∷ []) false
     (rw (← add-one (a .b)) (ne-eqb (a .b + 1) (a .count) (c .if1 .left))) refl refl
 
 pub visit-spec : {M : Type 1} → statement M
