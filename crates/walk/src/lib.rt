@@ -14,7 +14,7 @@ ghost use Rattle.walk.specs.Terms.{bannedAt, carriedAt, walkedIn, routeI
 ghost use Rattle.walk.specs.Terms.{Barring, Walks, isOpen, Searched};
 ghost use Rattle.walk.specs.Answer.{said, walkOutcome, WalkOwed};
 ghost use Rattle.walk.specs.declared.WalkAnswer.the-variants.{Refused};
-use plan::Way;
+use plan_words::Way;
 
 // The banned edges: those by jump or go, those by fall.
 struct Banned {
@@ -27,15 +27,15 @@ fn enter(plan: &[u64; 1024], b: usize, at: Banned) -> Banned
     requires { ⌜ b < 64 ⌝ }
     ensures { λ r. ⌜ Entered (now (plan .entry)) b (bannedAt at) (bannedAt r) ⌝ }
 {
-    let touched = plan::word::touched(plan, b);
+    let touched = plan_words::touched(plan, b);
     Banned {
         jumps: words::either(
             words::less(at.jumps, touched),
-            plan::word::denied(plan, b, 1),
+            plan_words::denied(plan, b, 1),
         ),
         falls: words::either(
             words::less(at.falls, touched),
-            plan::word::denied(plan, b, 2),
+            plan_words::denied(plan, b, 2),
         ),
     }
 }
@@ -46,8 +46,8 @@ fn bar(plan: &[u64; 1024], b: usize, way: usize, at: Banned) -> Banned
     ensures { λ r. ⌜ Barring (now (plan .entry)) b way (bannedAt at) (bannedAt r) ⌝ }
 {
     Banned {
-        jumps: words::either(at.jumps, plan::word::against(plan, b, way, 1)),
-        falls: words::either(at.falls, plan::word::against(plan, b, way, 2)),
+        jumps: words::either(at.jumps, plan_words::against(plan, b, way, 1)),
+        falls: words::either(at.falls, plan_words::against(plan, b, way, 2)),
     }
 }
 
@@ -57,7 +57,7 @@ fn step(plan: &[u64; 1024], b: usize, way: usize, at: Way) -> Way
     ensures { λ r. ⌜ carriedAt r ≡ advance (costAt (now (plan .entry))) (b, way) (carriedAt at) ⌝ }
 {
     Way {
-        weight: at.weight + plan::word::cost(plan, b, way),
+        weight: at.weight + plan_words::cost(plan, b, way),
         jumped: words::put(at.jumped, b, way == 1),
         fallen: words::put(at.fallen, b, way == 2),
     }
@@ -123,7 +123,7 @@ fn walk_from(
     if b + 1 == count {
         return;
     }
-    let jump = plan::word::target(plan, b, 1);
+    let jump = plan_words::target(plan, b, 1);
     if open(jump, here.jumps, b, found[0], budget) {
         let next = bar(plan, b, 1, here);
         let on = step(plan, b, 1, way);
@@ -140,7 +140,7 @@ fn walk_from(
             found,
         );
     }
-    let fall = plan::word::target(plan, b, 2);
+    let fall = plan_words::target(plan, b, 2);
     if open(fall, here.falls, b, found[0], budget) {
         let next = bar(plan, b, 2, here);
         let on = step(plan, b, 2, way);

@@ -21,7 +21,7 @@ use Rattle.walk.specs.Laws.{costs-few, onward}
 use Rattle.walk.proofs.walk_from.Reads as walk-from
 use Rattle.walk.proofs.walk_from.Kinds as walk-from-kinds
 use Rattle.walk.proofs.+walk_from.Lts-walk_from as lts
-use Rattle.plan.proofs.word.target.Reads as target-reads
+use Rattle.plan_words.proofs.target.Reads as target-reads
 use Rattle.walk.proofs.bar.Reads as bar-reads
 use Rattle.walk.proofs.enter.Reads as enter-reads
 use Rattle.walk.proofs.open.Reads as open-reads
