@@ -39,37 +39,6 @@ pub cheap : (s : List ℕ) → judge s ≡ Accepted → (b : ℕ) → block (bod
 unfolding block
 cheap s a b = well-formed s a .blocks b .cost
 
--- ---- no refusal has the number 0
-
-abbrev Numbered : Verdict → Type 0
-Numbered v = (number place : ℕ) → v ≡ Refused number place → number ≡ 0 → ⊥
-
-judged-numbered : (fault at : ℕ) (rest : Verdict) → Numbered rest → Numbered (judged fault at rest)
-judged-numbered fault at rest h number place = by (eqb fault 0) refl
-  where
-    by : (c : Bool) → eqb fault 0 ≡ c → when c rest (Refused fault at) ≡ Refused number place → number ≡ 0 → ⊥
-    by true q e z = h number place e z
-    by false q e z = let d = eqb-false fault 0 q in d (cc)
-
-accepted-numbered : Numbered Accepted
-accepted-numbered number place e z = refused (sym e)
-
-ends-numbered : (s : List ℕ) (n : ℕ) (l : List ℕ) (k : ℕ) → Numbered (judgeEnds s n l k)
-unfolding judgeEnds
-ends-numbered s n [] k = accepted-numbered
-ends-numbered s n (at ∷ rest) k = judged-numbered (endFault s at n k) at (judgeEnds s n rest (k + oneIf (isBlock s at))) (ends-numbered s n rest (k + oneIf (isBlock s at)))
-
-records-numbered : (s l : List ℕ) (b e : ℕ) → Numbered (judgeRecords s l b e)
-unfolding judgeRecords
-records-numbered s [] b e =
-    judged-numbered (when (eqb (length s) 0 || eqb b 0) 17 0) (length s) (judgeEnds s b (recordsFrom s 0) 0) (ends-numbered s b (recordsFrom s 0) 0)
-records-numbered s (at ∷ rest) b e =
-    judged-numbered (recordFault s at b e) at (judgeRecords s rest (b + oneIf (isBlock s at)) (e + oneIf (isEffect s at))) (records-numbered s rest (b + oneIf (isBlock s at)) (e + oneIf (isEffect s at)))
-
-pub judge-numbered : (s : List ℕ) → Numbered (judge s)
-unfolding judge
-judge-numbered s = records-numbered s (recordsFrom s 0) 0 0
-
 -- ---- one outcome
 
 module _ {A : Type 0} (s : List ℕ) (refused-by : ℕ → ℕ → A) (with : ℕ → A) where

@@ -12,12 +12,13 @@ use Rattle.counter.specs.declared.Counted.{Counted}
 use Rattle.counter.specs.declared.Counted.the-variants.{Iterations, Refused as NoCount}
 use Rattle.lower_laws.specs.Loops.{count-few}
 use Rattle.roundtrip.specs.Sound.{sound, well-formed}
+use Rattle.roundtrip.specs.Refusals.{reader-gives}
 use Rattle.roundtrip.specs.Read.{read-accepted, read-body}
 use Rattle.theory.specs.Route.{stepCost}
 use Rattle.theory.specs.Plan.{Planned, PlanOf}
 use Rattle.plan.specs.Owed.{CountOf, Owed}
 use Rattle.plan.specs.Owed.Owed.{no-form, no-count, counted}
-use Rattle.plan.specs.Accepted.{CounterOwed, cost-range, judge-numbered, no-count-owed, count-owed}
+use Rattle.plan.specs.Accepted.{CounterOwed, cost-range, no-count-owed, count-owed}
 use Rattle.plan.specs.declared.Prepared.{Prepared}
 
 -- ---- any bytes
@@ -78,7 +79,7 @@ pub data PreparedFrom (c : Counted) (count : ℕ) (plan : List ℕ) (r : Prepare
 
 pub prepared-refused : (form : List ℕ) (r : Prepared) {number place : ℕ} → judge form ≡ Refused number place → Unprepared number place r → PreparedOf form r
 prepared-refused form r {number} {place} j u =
-    refused (unread (j ∙ λ i. Refused (sym (u .number-is) i) (sym (u .place-is) i))) (λ z. judge-numbered form number place j (sym (u .number-is) ∙ z)) (u .empty)
+    refused (unread (j ∙ λ i. Refused (sym (u .number-is) i) (sym (u .place-is) i))) (λ z. omega (arith, reader-gives form number place j, u .number-is)) (u .empty)
 
 module _ (form : List ℕ) (reading : Reading) (e : reading ≡ readingOf form) (v : reading .verdict ≡ Accepted) where
   abbrev known : reading .body ≡ bodyOf form

@@ -1,28 +1,29 @@
 -- An answer with a route, by either way and on either side of it, and what follows from it alone: no run of at most count iterations costs more than the bound (`answered-sound`), and two
 -- such answers for one form say the same (`answered-agree`). Beside it, of what a call owes: where it refuses nothing it has a count (`no-refusal`), and two calls refuse alike what the
 -- reader and the counter refuse (`same-early`). Rests on plan's Owed and Accepted and on theory's Bound.
-use mathlib.Core.Path.{_≡_, refl, sym, ap, _∙_}
-use mathlib.Core.Logic.{_⊎_, ⊎-elim}
+use mathlib.Core.Path.{_≡_, refl, sym, ap, subst, _∙_}
+use mathlib.Core.Logic.{_⊎_, inl, inr, ⊎-elim}
 use mathlib.Core.Bool.{cond}
-use mathlib.Core.List.{List, _++_}
+use mathlib.Core.List.{List, _∷_, _++_}
 use mathlib.Core.Option.{some}
 use Prim.Native.Nat.{ℕ, suc, _<_, _≤_}
 use native.Mathlib.Omega.{arith}
 use lib.Dec.{eqb}
 use lib.ListN.{length, take, drop, length-map}
 use lib.Seq.{take-at}
-use Rattle.laws.specs.Terms.{range}
+use Rattle.laws.specs.Terms.{Mem, range}
 use Rattle.form.specs.declared.Body.{Body}
 use Rattle.form.specs.declared.Verdict.the-variants.{Accepted, Refused}
 use Rattle.form.specs.Form.{judge, bodyOf}
 use Rattle.lower_laws.specs.Loops.{count-once}
+use Rattle.roundtrip.specs.Refusals.{reader-gives}
 use Rattle.roundtrip.specs.Sound.{sound}
 use Rattle.theory.specs.Route.{Path, Side, dearest, routeOn, stepCost, boundOf, routeBytes, wayOf}
 use Rattle.theory.specs.Run.{Run, runCost}
 use Rattle.theory.specs.Bound.{run-bound}
 use Rattle.plan.specs.Owed.{CountOf, Owed}
 use Rattle.plan.specs.Owed.Owed.{no-form, no-count, counted}
-use Rattle.plan.specs.Accepted.{judge-numbered, owed-once}
+use Rattle.plan.specs.Accepted.{owed-once}
 use Rattle.plan.specs.Prepared.{Refuses, refusal-owed}
 use Rattle.plan.specs.Prepared.Refuses.{unread, uncounted}
 use Rattle.plan.specs.RouteWords.{range-length}
@@ -87,14 +88,16 @@ module _ (side : Body → Side) (form : List ℕ) where
 
 -- ---- what a call owes, by the number and place in its outcome
 
--- a call's outcomes: a refusal's, and those with a count, which are no refusal or one of 40 and above
+-- a call's outcomes: a refusal's, and those with a count, whose numbers are 0 (no refusal) and the late ones, 40 and above
 pub record Call (A : Type 0) : Type 0 where
   pub number : A → ℕ
   pub place : A → ℕ
   pub refused : (number place : ℕ) → A
   pub tells : (n p : ℕ) → (number (refused n p) ≡ n) × (place (refused n p) ≡ p)
   pub with : (count : ℕ) → A
-  pub late : (k : ℕ) → (number (with k) ≡ 0) ⊎ (40 ≤ number (with k))
+  pub late : List ℕ
+  pub late-only : (k : ℕ) → Mem (number (with k)) (0 ∷ late)
+  pub late-high : (n : ℕ) → Mem n late → 40 ≤ n
 
 abbrev pub Owes : {A : Type 0} → Call A → List ℕ → A → Type 0
 Owes call form x = Owed form (call .refused) (call .with) x
@@ -108,7 +111,7 @@ pub record Counts {A : Type 0} (form : List ℕ) (with : ℕ → A) (x : A) : Ty
 
 module _ {A : Type 0} (form : List ℕ) (call : Call A) where
   pub no-refusal : (x : A) → Owes call form x → call .number x ≡ 0 → Counts form (call .with) x
-  no-refusal x (no-form n p j e) z = absurd (judge-numbered form n p j (sym (ap (call .number) e ∙ call .tells n p .0) ∙ z))
+  no-refusal x (no-form n p j e) z = absurd (omega (arith, reader-gives form n p j, ap (call .number) e ∙ call .tells n p .0))
   no-refusal x (no-count a never e) z = let n = ap (call .number) e ∙ call .tells 20 0 .0 in absurd (omega arith)
   no-refusal x (counted a k c e) z = record { accepted = a; count = k; is-count = c; is = e }
 
@@ -117,7 +120,13 @@ module _ {A : Type 0} (form : List ℕ) (call : Call A) where
   early x (no-form n p j e) l h =
       unread (j ∙ λ i. Refused (sym (ap (call .number) e ∙ call .tells n p .0) i) (sym (ap (call .place) e ∙ call .tells n p .1) i))
   early x (no-count a never e) l h = uncounted a never (ap (call .number) e ∙ call .tells 20 0 .0) (ap (call .place) e ∙ call .tells 20 0 .1)
-  early x (counted a k c e) l h = ⊎-elim (λ z. let n = ap (call .number) e in absurd (omega arith)) (λ m. let n = ap (call .number) e in absurd (omega arith)) (call .late k)
+  early x (counted a k c e) l h = absurd (⊎-elim (λ z. let n = ap (call .number) e in omega arith) (λ m. let n = ap (call .number) e in omega (arith, call .late-high _ m)) (call .late-only k))
+
+  -- which numbers the call gives: 0, the reader's 10 to 19, the counter's 20, and the late ones
+  pub gives : (x : A) → Owes call form x → ((10 ≤ call .number x) × (call .number x ≤ 20)) ⊎ Mem (call .number x) (0 ∷ call .late)
+  gives x (no-form n p j e) = inl (omega (arith, reader-gives form n p j, ap (call .number) e ∙ call .tells n p .0))
+  gives x (no-count a never e) = inl (omega (arith, ap (call .number) e ∙ call .tells 20 0 .0))
+  gives x (counted a k c e) = inr (subst (λ (n : ℕ). Mem n (0 ∷ call .late)) (sym (ap (call .number) e)) (call .late-only k))
 
   pub early-owed : (x : A) → Owes call form x → (n p : ℕ) → Refuses form n p → (call .number x ≡ n) × (call .place x ≡ p)
   early-owed x o n p r =
