@@ -1,13 +1,14 @@
 -- What the exported calls return. Trusted: each number of an answer, from the answers of the layers below; 0 as number is no refusal.
 use mathlib.Core.List.{List}
 use Prim.Native.Nat.{ℕ, _/_}
-use lib.ListN.{length, replicate}
+use lib.ListN.{length}
 use Rattle.form.specs.declared.Verdict.{Verdict}
 use Rattle.form.specs.declared.Written.{Written}
 use Rattle.form.specs.Form.{when, judge, bodyOf, lay}
 use Rattle.form.specs.Answer.{accepted, numberOf, placeOf, writtenNumber, writtenPlace, written, heldAfter}
 use Rattle.counter.specs.Answer as Counter
 use Rattle.walk.specs.Answer as Walk
+use Rattle.rows.specs.declared.Entry.{Entry}
 use Rattle.sweep.specs.Answer as Sweep
 use Rattle.sweep.specs.declared.SweepAnswer.{SweepAnswer}
 use Rattle.desk.specs.declared.CountAnswer.{CountAnswer}
@@ -79,9 +80,9 @@ sweepValues answer =
       kept = answer .kept;
     }
 
-abbrev pub sweptOutcome : SweepNumbers → (route table : List ℕ) → Sweep.Outcome
+abbrev pub sweptOutcome : SweepNumbers → (route : List ℕ) → (table : List Entry) → Sweep.Outcome
 sweptOutcome answer route table = record { values = sweepValues answer; route = route; table = table }
 
 -- The sweep over a table of 1,536 zero entries of its own, whatever that holds afterwards
 abbrev pub OwnSweepOwed : (form route : List ℕ) → SweepNumbers → List ℕ → Type 0
-OwnSweepOwed form route answer held = (table : List ℕ) × Sweep.SweepOwed form route (replicate 7680 0) (sweptOutcome answer held table)
+OwnSweepOwed form route answer held = (table : List Entry) × Sweep.SweepOwed form route Sweep.ownTable (sweptOutcome answer held table)

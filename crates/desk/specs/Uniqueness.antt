@@ -3,7 +3,7 @@ use mathlib.Core.List.{List}
 use mathlib.Core.Path.{_≡_, sym, _∙_}
 use Prim.Native.Nat.{ℕ}
 use lib.IntN.{ℤ}
-use lib.ListN.{length, replicate}
+use lib.ListN.{length}
 use Rattle.counter.specs.Answer.{Owed}
 use Rattle.counter.specs.Uniqueness.{owed-once}
 use Rattle.form.specs.Form.{judge, bodyOf}
@@ -11,8 +11,10 @@ use Rattle.form.specs.Conflict.{conflictBytes}
 use Rattle.laws.specs.Terms.{digit}
 use Rattle.pair.specs.Pair.{conflicting}
 use Rattle.listing.specs.Answer as Conflict
+use Rattle.theory.specs.Route.{dearest}
 use Rattle.plan.specs.Accepted as Routes
 use Rattle.walk.specs.Answer as Walk
+use Rattle.rows.specs.declared.Entry.{Entry}
 use Rattle.sweep.specs.Answer as Sweep
 use Rattle.desk.specs.declared.CountAnswer.{CountAnswer}
 use Rattle.desk.specs.declared.FormAnswer.{FormAnswer}
@@ -52,7 +54,7 @@ pub one-walk :
     (form : List ℕ) (budget : ℕ) (route held held′ : List ℕ) (a b : WalkNumbers) → Walk.WalkOwed form budget route (walkValues a, held)
     → Walk.WalkOwed form budget route (walkValues b, held′) → (a ≡ b) × (held ≡ held′)
 one-walk form budget route held held′ a b o p =
-    let e = Routes.owed-once form (Walk.refused route) (Walk.walkOutcome (bodyOf form) budget route) (walkValues a, held) (walkValues b, held′) o p in (
+    let e = Routes.owed-once form (Walk.refused route) (Walk.walkOutcome (bodyOf form) (dearest (bodyOf form)) budget route) (walkValues a, held) (walkValues b, held′) o p in (
       (λ i.
           record {
             number = e i .0 .number;
@@ -66,10 +68,10 @@ one-walk form budget route held held′ a b o p =
     )
 
 pub one-sweep-table :
-    (form route table held held′ rows rows′ : List ℕ) (a b : SweepNumbers) → Sweep.SweepOwed form route table (sweptOutcome a held rows)
+    (form route held held′ : List ℕ) (table rows rows′ : List Entry) (a b : SweepNumbers) → Sweep.SweepOwed form route table (sweptOutcome a held rows)
     → Sweep.SweepOwed form route table (sweptOutcome b held′ rows′) → (a ≡ b) × ((held ≡ held′) × (rows ≡ rows′))
-one-sweep-table form route table held held′ rows rows′ a b o p =
-    let e = Routes.owed-once form (Sweep.refused route table) (Sweep.sweepOutcome (bodyOf form) route table) (sweptOutcome a held rows) (sweptOutcome b held′ rows′) o p in (
+one-sweep-table form route held held′ table rows rows′ a b o p =
+    let e = Routes.owed-once form (Sweep.refused route table) (Sweep.sweepOutcome (bodyOf form) (dearest (bodyOf form)) route table) (sweptOutcome a held rows) (sweptOutcome b held′ rows′) o p in (
       (λ i.
           record {
             number = e i .values .number;
@@ -85,5 +87,5 @@ one-sweep-table form route table held held′ rows rows′ a b o p =
 pub one-sweep :
     (form route held held′ : List ℕ) (a b : SweepNumbers) → OwnSweepOwed form route a held → OwnSweepOwed form route b held′ → (a ≡ b) × (held ≡ held′)
 one-sweep form route held held′ a b (rows, o) (rows′, p) =
-    let same = one-sweep-table form route (replicate 7680 0) held held′ rows rows′ a b o p in
+    let same = one-sweep-table form route held held′ Sweep.ownTable rows rows′ a b o p in
     (same .0, same .1 .0)

@@ -15,6 +15,7 @@ use counter::Counted;
 use form::Verdict;
 use form::Written;
 use listing::Listed;
+use rows::Entry;
 use sweep::SweepAnswer;
 use walk::WalkAnswer;
 
@@ -245,16 +246,17 @@ fn of_sweep(sweep: SweepAnswer) -> SweepNumbers
     }
 }
 
-// The sweep of a form over a lent table, five words an entry: its numbers, the rows in the table, and the route's bytes in the lent ones.
+// The sweep of a form over a lent table of entries: its numbers, the rows in the table, and the route's bytes in the lent ones.
 #[no_mangle]
 pub extern "C" fn somniaret_sweep_table(
     bytes: &[u8],
-    table: &mut [u64],
+    table: &mut [Entry],
     route: &mut [u8],
 ) -> SweepNumbers
     ensures { λ r. ⌜ SweepOwed (now (bytes .entry)) (now (route .entry)) (now (table .entry)) (sweptOutcome r (now (route .exit)) (now (table .exit))) ⌝ }
 {
-    of_sweep(sweep::sweep(bytes, table, route))
+    let answer = sweep::sweep(bytes, table, route);
+    of_sweep(answer)
 }
 
 // The same over a table of its own, as large as the report program's: 1,536 entries.
@@ -262,6 +264,5 @@ pub extern "C" fn somniaret_sweep_table(
 pub extern "C" fn somniaret_sweep(bytes: &[u8], route: &mut [u8]) -> SweepNumbers
     ensures { λ r. ⌜ OwnSweepOwed (now (bytes .entry)) (now (route .entry)) r (now (route .exit)) ⌝ }
 {
-    let mut table = [0u64; 7680];
-    somniaret_sweep_table(bytes, &mut table, route)
+    of_sweep(sweep::sweep_own(bytes, route))
 }
