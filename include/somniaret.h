@@ -23,7 +23,7 @@
      number  when                                                                  place
      10      1 to 3 bytes left at a record's start, or length beyond the input     record's offset
      11      length wrong for the kind                                             record's offset
-     12      unknown kind                                                          record's offset
+     12      unknown kind of record                                                record's offset
      13      first record no counter, a later counter, an effect before any block  record's offset
      14      65th block or 257th effect                                            record's offset
      15      field out of range, or unused and not zero                            record's offset; 0 from somniaret_count

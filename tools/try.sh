@@ -20,6 +20,7 @@ try() {
         failed=$((failed + 1))
         echo "FAILED: $name: status $ended, wanted $status; it printed:"
         cat "$room/out" "$room/said"
+        echo
     fi
 }
 

@@ -1,4 +1,6 @@
-//! The trainer's body of document 01, whose form is `examples/trainer.form`.
+//! The trainer's body of document 01, whose form is `examples/trainer.form`, and the files of `examples`.
+
+use std::fs;
 
 use crate::conflict::{AT_LEAST, EQUAL, LESS};
 use crate::form::{parts_bytes, Block, Counter, Effect, Parts};
@@ -23,4 +25,10 @@ pub fn trainer_parts() -> Parts {
 /// The trainer's form, 173 bytes.
 pub fn trainer_form() -> Vec<u8> {
     parts_bytes(&trainer_counter(), &trainer_parts())
+}
+
+/// The bytes of a file of `examples`, which must be there.
+pub fn example_file(name: &str) -> Result<Vec<u8>, String> {
+    let path = format!("{}/../examples/{name}", env!("CARGO_MANIFEST_DIR"));
+    fs::read(path).map_err(|error| format!("examples/{name}: {error}"))
 }

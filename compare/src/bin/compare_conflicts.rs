@@ -2,15 +2,17 @@
 //!
 //!     compare_conflicts [SEED [INPUTS]] -- PROGRAM WORD..
 //!
-//! The list of every input is written into memory that is not there, too short, exact and longer. Pairs are all those of
-//! two relations and two constants within 3 of each other, around zero and at both ends of i32, and from one end to the
-//! other.
+//! Figure 1 of document 003 comes first: the bytes of the proved list of `examples/figure1.form` are those of
+//! `examples/figure1.list`. The list of every input is written into memory that is not there, too short, exact and longer.
+//! Pairs are all those of two relations and two constants within 3 of each other, around zero and at both ends of i32, and
+//! from one end to the other.
 
 use std::process::ExitCode;
 
 use by_listing::calls::Listing;
 use by_listing::conflict::{ASSIGNMENT_PAIR, EDGE_PAIR};
 use by_listing::driver::{Comparison, Form, RELATIONS};
+use by_listing::example::example_file;
 use by_listing::generate::mostly_small;
 use by_listing::random::Random;
 use by_listing::served::{Call, Question};
@@ -20,12 +22,35 @@ const INPUTS: u64 = 26_000;
 
 fn main() -> ExitCode {
     let mut comparison = Comparison::start("compare_conflicts", INPUTS, &[Call::Conflicts, Call::Pair]);
+    compare_figure_1(&mut comparison);
     for form in comparison.forms(mostly_small) {
         compare_list(&mut comparison, form);
     }
     compare_pairs(&mut comparison);
     let of_the_list = [0, 10, 11, 12, 13, 14, 15, 16, 17, 18, 19, 42];
     comparison.finish(&[(Call::Conflicts, &of_the_list), (Call::Pair, &[0, 1])])
+}
+
+/// Where a file of the example is missing, or its list is another, it is a failure.
+fn compare_figure_1(comparison: &mut Comparison) {
+    let files = example_file("figure1.form").and_then(|form| Ok((form, example_file("figure1.list")?)));
+    let (form, list) = match files {
+        Ok(both) => both,
+        Err(why) => return comparison.tally.check(false, || format!("figure 1: {why}")),
+    };
+    let whole = Question::on(Call::Conflicts, &form).out(Some(list.len()));
+    comparison.ask("figure 1".to_string(), vec![whole], move |_, answers, _| {
+        let [number, place, entries, ..] = answers[0].numbers;
+        let written = answers[0].memory.out();
+        let same = (number, place, 5 * entries) == (0, 0, list.len() as u64) && written == list;
+        same.then_some(()).ok_or_else(|| {
+            format!(
+                "answered {number} at {place}, {entries} entries, {written:?}; examples/figure1.list has {list:?}"
+            )
+        })
+    });
+    let figure = Form { what: "figure 1, by the second program".to_string(), bytes: form, seed: comparison.seed };
+    compare_list(comparison, figure);
 }
 
 fn compare_list(comparison: &mut Comparison, form: Form) {

@@ -17,7 +17,7 @@ use Rattle.form.specs.Form.{when, judge, bodyOf, lay, countsFit}
 use Rattle.form.specs.Answer.{written, asJudged as asWritten, heldAfter as heldForm}
 use Rattle.form.specs.Conflict.{conflictBytes}
 use Rattle.listing.specs.declared.Listed.{Listed}
-use Rattle.listing.specs.declared.Listed.the-variants.{Bytes, Unlisted}
+use Rattle.listing.specs.declared.Listed.the-variants.{Bytes, Refused as Unlisted}
 use Rattle.listing.specs.Answer.{listing, asJudged, heldAfter}
 
 -- bytes that stand first are there

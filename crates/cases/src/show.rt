@@ -92,7 +92,7 @@ pub fn list(form: &[u8]) {
     let mut out = [0u8; 64];
     match listing::conflicts(form, &mut out) {
         Listed::Bytes(n) => entries(&out[..n]),
-        Listed::Unlisted { number, place } => refusal(number, place),
+        Listed::Refused { number, place } => refusal(number, place),
     }
 }
 

@@ -149,7 +149,7 @@ fn of_listed(listed: Listed) -> ListNumbers
             place: 0,
             entries: (count / 5) as u64,
         },
-        Listed::Unlisted { number, place } => ListNumbers {
+        Listed::Refused { number, place } => ListNumbers {
             number: number as u64,
             place: place as u64,
             entries: 0,

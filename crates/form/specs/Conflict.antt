@@ -1,6 +1,6 @@
 -- Conflicts, after document 01, 'Conflicts and routes': the blocks, effects and edges of a body, conditions, clean paths and the conflict list.
 -- Trusted: definitions only. Rests on Relation (when a number meets a relation), on Form's zeroBlock and on the laws' Terms.
--- Two tests stand beside the statement that they decide (`contradict` and Contradict, `clean` and Clean). The crate relations proves that they say the same
+-- Two tests stand beside the statement that they decide (`contradict` and Contradict, `clean` and Clean). The crate lower_laws proves that they say the same
 -- (Conditions, ConflictList), and that the list holds exactly what Holds says, in order.
 use mathlib.Core.Path.{_≡_}
 use mathlib.Core.Logic.{_⊎_}
@@ -66,6 +66,11 @@ exitsBy (suc (suc (suc (suc above)))) jump fall = []
 -- The exits of block b: each way with its target, jump before fall.
 unfoldable pub exits : Body → ℕ → List (ℕ × ℕ)
 exits body b = exitsBy (block body b .ending) (block body b .jump) (block body b .fall)
+
+-- Where a way leads; 64, no block's number, where there is no such way.
+abbrev pub wayTo : (way : ℕ) → List (ℕ × ℕ) → ℕ
+wayTo way [] = 64
+wayTo way (o ∷ l) = cond (eqb (o .0) way) (o .1) (wayTo way l)
 
 -- Every target is above its block and is a block.
 pub record Onward (body : Body) : Type 0 where

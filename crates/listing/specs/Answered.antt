@@ -5,13 +5,13 @@ use Prim.Native.Nat.{ℕ}
 use Rattle.form.specs.declared.Body.{Body}
 use Rattle.form.specs.declared.Reading.{Reading}
 use Rattle.form.specs.declared.Verdict.{Verdict}
-use Rattle.form.specs.declared.Verdict.the-variants.{Accepted, Refused}
+use Rattle.form.specs.declared.Verdict.the-variants.{Accepted, Refused as NoForm}
 use Rattle.form.specs.Form.{bodyOf}
 use Rattle.form.specs.Answer.{reading}
 use Rattle.form.specs.Conflict.{conflictBytes}
 use Rattle.roundtrip.specs.Read.{read-as, read-accepted, read-body}
 use Rattle.listing.specs.declared.Listed.{Listed}
-use Rattle.listing.specs.declared.Listed.the-variants.{Unlisted}
+use Rattle.listing.specs.declared.Listed.the-variants.{Refused}
 use Rattle.listing.specs.Answer.{asJudged, listedIn, listing, heldAfter}
 
 module _ (s : List ℕ) (r : Reading) (is : r ≡ reading s) where
@@ -22,5 +22,5 @@ module _ (s : List ℕ) (r : Reading) (is : r ≡ reading s) where
     q ∙ ap (λ (b : Body). heldAfter a (conflictBytes b) out) (read-body s r is ok),
   )
 
-  pub refused-as : (number place room : ℕ) → r .verdict ≡ Refused number place → Unlisted number place ≡ listing s room
-  refused-as number place room e = ap (λ (v : Verdict). asJudged v (listedIn (bodyOf s) room)) (sym (read-as s r is (Refused number place) e))
+  pub refused-as : (number place room : ℕ) → r .verdict ≡ NoForm number place → Refused number place ≡ listing s room
+  refused-as number place room e = ap (λ (v : Verdict). asJudged v (listedIn (bodyOf s) room)) (sym (read-as s r is (NoForm number place) e))

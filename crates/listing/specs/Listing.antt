@@ -1,5 +1,5 @@
 -- The list's bytes and its number of entries from the firsts of the edges: the bytes that the loops lay out are those of the conflict list. Rests on Laying, Parts and
--- relations.Joined.
+-- lower_laws' Joined.
 use mathlib.Core.Path.{_≡_, refl, sym, ap, ap₂, _∙_}
 use mathlib.Core.Bool.{Bool, true, false, cond}
 use mathlib.Core.List.{List, [], _∷_, _++_, append-nil}
@@ -16,12 +16,13 @@ use Rattle.words.specs.Filled.{Told, bits-fit}
 use Rattle.laws.specs.Sums.{sum, sum-same, sum-add, ones-sum, length-each}
 use Rattle.form.specs.declared.Body.{Body}
 use Rattle.form.specs.Conflict.{Edge, Pair, block, condition, assigned, assignmentPair, edgePair, conflicts, conflictBytes}
-use Rattle.lower_laws.specs.Joined.{byJump, byFall, edgePairs, past-count, denies-none, no-test, opposes-first, assigned-none, jump-none, fall-none, conflicts-by-edge}
+use Rattle.lower_laws.specs.Joined.{byWay, edgePairs, past-count, denies-none, no-test, opposes-first, assigned-none, way-none, conflicts-by-edge}
 use borrow.Author.Tests.{lt-ltb, le-ltb}
-use Rattle.listing.specs.declared.Listed.the-variants.{Bytes, Unlisted}
+use Rattle.listing.specs.declared.Listed.the-variants.{Bytes, Refused}
 use Rattle.listing.specs.Answer.{listedIn}
-use Rattle.path_sets.specs.declared.Firsts.{Firsts}
-use Rattle.path_sets.specs.Parts.{FirstsBy}
+use Rattle.sets.specs.declared.Firsts.{Firsts}
+use Rattle.sets.specs.declared.Found.{Found}
+use Rattle.path_sets.specs.Parts.{FirstsBy, FoundBy}
 use Rattle.laws.specs.Laid.{Laid, laid-next, laid-room}
 use Rattle.listing.specs.Laying.{entryBytes, wordBytes, edgeBytes}
 
@@ -63,14 +64,11 @@ module _ (body : Body) (few : body .count ≤ 64) where
   off-assigned : (e : Edge) (b : ℕ) → 64 ≤ b → assigned body b e ≡ false
   off-assigned e b h = assigned-none body b e (denies-none body b e (past-count body b (omega arith)))
 
-  off-jump : (e : Edge) (b : ℕ) → 64 ≤ b → byJump body b e ≡ false
-  off-jump e b h = jump-none body b e (opposes-first body (b, 1) e (no-test body b (past-count body b (omega arith))))
-
-  off-fall : (e : Edge) (b : ℕ) → 64 ≤ b → byFall body b e ≡ false
-  off-fall e b h = fall-none body b e (opposes-first body (b, 2) e (no-test body b (past-count body b (omega arith))))
+  off-way : (way : ℕ) (e : Edge) (b : ℕ) → 64 ≤ b → byWay body way b e ≡ false
+  off-way way e b h = way-none body way b e (opposes-first body (b, way) e (no-test body b (past-count body b (omega arith))))
 
   -- ---- the edge (s, way), with its words
-  module _ (s way a j f v : ℕ) (is-a : (k : ℕ) → bit a k ≡ assigned body k (s, way)) (is-j : (k : ℕ) → bit j k ≡ byJump body k (s, way)) (is-f : (k : ℕ) → bit f k ≡ byFall body k (s, way))
+  module _ (s way a j f v : ℕ) (is-a : (k : ℕ) → bit a k ≡ assigned body k (s, way)) (is-j : (k : ℕ) → bit j k ≡ byWay body 1 k (s, way)) (is-f : (k : ℕ) → bit f k ≡ byWay body 2 k (s, way))
       (is-v : v ≡ condition body (s, way) .variable) where
     assignments-are : wordBytes 1 a v 0 0 s way ≡ each (each (range 0 64) (λ b. cond (assigned body b (s, way)) (assignmentPair body (s, way) b ∷ []) [])) pairBytes
     unfolding wordBytes
@@ -81,18 +79,18 @@ module _ (body : Body) (few : body .count ≤ 64) where
         ∙ sym (one-pair (assigned body b (s, way)) (assignmentPair body (s, way) b)))
         ∙ sym (each-each (range 0 64) (λ b. cond (assigned body b (s, way)) (assignmentPair body (s, way) b ∷ []) []) pairBytes)
 
-    crossings-are : wordBytes 2 j 1 f 2 s way ≡ each (each (range 0 64) (λ b. cond (byJump body b (s, way)) (edgePair (s, way) b (1, 0) ∷ []) [] ++ cond (byFall body b (s, way)) (edgePair (s, way) b (2, 0) ∷ []) [])) pairBytes
+    crossings-are : wordBytes 2 j 1 f 2 s way ≡ each (each (range 0 64) (λ b. cond (byWay body 1 b (s, way)) (edgePair (s, way) b (1, 0) ∷ []) [] ++ cond (byWay body 2 b (s, way)) (edgePair (s, way) b (2, 0) ∷ []) [])) pairBytes
     unfolding wordBytes
     crossings-are =
         each-same (range 0 64) _ _ (λ b m.
         (λ i. entryBytes (is-j b i) 2 b 1 s way ++ entryBytes (is-f b i) 2 b 2 s way)
-        ∙ (λ i. sym (one-pair (byJump body b (s, way)) (edgePair (s, way) b (1, 0))) i ++ sym (one-pair (byFall body b (s, way)) (edgePair (s, way) b (2, 0))) i)
-        ∙ sym (each-append (cond (byJump body b (s, way)) (edgePair (s, way) b (1, 0) ∷ []) []) (cond (byFall body b (s, way)) (edgePair (s, way) b (2, 0) ∷ []) []) pairBytes))
-        ∙ sym (each-each (range 0 64) (λ b. cond (byJump body b (s, way)) (edgePair (s, way) b (1, 0) ∷ []) [] ++ cond (byFall body b (s, way)) (edgePair (s, way) b (2, 0) ∷ []) []) pairBytes)
+        ∙ (λ i. sym (one-pair (byWay body 1 b (s, way)) (edgePair (s, way) b (1, 0))) i ++ sym (one-pair (byWay body 2 b (s, way)) (edgePair (s, way) b (2, 0))) i)
+        ∙ sym (each-append (cond (byWay body 1 b (s, way)) (edgePair (s, way) b (1, 0) ∷ []) []) (cond (byWay body 2 b (s, way)) (edgePair (s, way) b (2, 0) ∷ []) []) pairBytes))
+        ∙ sym (each-each (range 0 64) (λ b. cond (byWay body 1 b (s, way)) (edgePair (s, way) b (1, 0) ∷ []) [] ++ cond (byWay body 2 b (s, way)) (edgePair (s, way) b (2, 0) ∷ []) []) pairBytes)
 
     edge-is : edgeBytes a j f v s way ≡ each (edgePairs body (s, way)) pairBytes
     unfolding edgeBytes edgePairs
-    edge-is = ap₂ _++_ assignments-are crossings-are ∙ sym (each-append (each (range 0 64) (λ b. cond (assigned body b (s, way)) (assignmentPair body (s, way) b ∷ []) [])) (each (range 0 64) (λ b. cond (byJump body b (s, way)) (edgePair (s, way) b (1, 0) ∷ []) [] ++ cond (byFall body b (s, way)) (edgePair (s, way) b (2, 0) ∷ []) [])) pairBytes)
+    edge-is = ap₂ _++_ assignments-are crossings-are ∙ sym (each-append (each (range 0 64) (λ b. cond (assigned body b (s, way)) (assignmentPair body (s, way) b ∷ []) [])) (each (range 0 64) (λ b. cond (byWay body 1 b (s, way)) (edgePair (s, way) b (1, 0) ∷ []) [] ++ cond (byWay body 2 b (s, way)) (edgePair (s, way) b (2, 0) ∷ []) [])) pairBytes)
 
     -- the number of its entries
     counted : (w : ℕ) (g : ℕ → Bool) → ((k : ℕ) → bit w k ≡ g k) → ((k : ℕ) → 64 ≤ k → g k ≡ false) → ones w ≡ sum 64 (λ k. digit (g k))
@@ -106,12 +104,12 @@ module _ (body : Body) (few : body .count ≤ 64) where
         (length-each 64 (λ b. cond (assigned body b (s, way)) (assignmentPair body (s, way) b ∷ []) [])
         ∙ sum-same 64 _ (λ b. digit (assigned body b (s, way))) (λ b l. one-length (assigned body b (s, way)) (assignmentPair body (s, way) b))
         ∙ sym (counted a (λ b. assigned body b (s, way)) is-a (off-assigned (s, way))))
-        (length-each 64 (λ b. cond (byJump body b (s, way)) (edgePair (s, way) b (1, 0) ∷ []) [] ++ cond (byFall body b (s, way)) (edgePair (s, way) b (2, 0) ∷ []) [])
-        ∙ sum-same 64 _ (λ b. digit (byJump body b (s, way)) + digit (byFall body b (s, way))) (λ b l.
-        length-append (cond (byJump body b (s, way)) (edgePair (s, way) b (1, 0) ∷ []) []) (cond (byFall body b (s, way)) (edgePair (s, way) b (2, 0) ∷ []) [])
-        ∙ ap₂ _+_ (one-length (byJump body b (s, way)) (edgePair (s, way) b (1, 0))) (one-length (byFall body b (s, way)) (edgePair (s, way) b (2, 0))))
-        ∙ sum-add 64 (λ b. digit (byJump body b (s, way))) (λ b. digit (byFall body b (s, way)))
-        ∙ ap₂ _+_ (sym (counted j (λ b. byJump body b (s, way)) is-j (off-jump (s, way)))) (sym (counted f (λ b. byFall body b (s, way)) is-f (off-fall (s, way)))))
+        (length-each 64 (λ b. cond (byWay body 1 b (s, way)) (edgePair (s, way) b (1, 0) ∷ []) [] ++ cond (byWay body 2 b (s, way)) (edgePair (s, way) b (2, 0) ∷ []) [])
+        ∙ sum-same 64 _ (λ b. digit (byWay body 1 b (s, way)) + digit (byWay body 2 b (s, way))) (λ b l.
+        length-append (cond (byWay body 1 b (s, way)) (edgePair (s, way) b (1, 0) ∷ []) []) (cond (byWay body 2 b (s, way)) (edgePair (s, way) b (2, 0) ∷ []) [])
+        ∙ ap₂ _+_ (one-length (byWay body 1 b (s, way)) (edgePair (s, way) b (1, 0))) (one-length (byWay body 2 b (s, way)) (edgePair (s, way) b (2, 0))))
+        ∙ sum-add 64 (λ b. digit (byWay body 1 b (s, way))) (λ b. digit (byWay body 2 b (s, way)))
+        ∙ ap₂ _+_ (sym (counted j (λ b. byWay body 1 b (s, way)) is-j (off-way 1 (s, way)))) (sym (counted f (λ b. byWay body 2 b (s, way)) is-f (off-way 2 (s, way)))))
 
   -- ---- the whole list
   module _ (variable : List ℕ) (jumped fallen : Firsts) (vs : Told 0 (λ k x. x ≡ block body k .variable) 64 64 variable) (one : FirstsBy body 1 jumped) (two : FirstsBy body 2 fallen) where
@@ -146,6 +144,15 @@ pub record Rows (variable a1 j1 f1 a2 j2 f2 : List ℕ) : Type 0 where
   pub first : (length a1 ≡ 64) × ((length j1 ≡ 64) × (length f1 ≡ 64))
   pub second : (length a2 ≡ 64) × ((length j2 ≡ 64) × (length f2 ≡ 64))
 
+-- what is found of a body has them
+pub found-rows : (body : Body) (f : Found) → FoundBy body f
+    → Rows (f .variable) (f .jumped .assigned) (f .jumped .jump) (f .jumped .fall) (f .fallen .assigned) (f .fallen .jump) (f .fallen .fall)
+found-rows body f b = record {
+  variables = b .variables .size;
+  first = (b .jumped .assigned .size, (b .jumped .jumps .size, b .jumped .falls .size));
+  second = (b .fallen .assigned .size, (b .fallen .jumps .size, b .fallen .falls .size));
+}
+
 -- the list from the first byte on
 pub from-start : (list out : List ℕ) → length list ≤ length out → sets out 0 list ≡ list ++ drop (length list) out
 from-start list out h = sets-eq list out 0 (omega arith) ∙ ap (λ n. list ++ drop n out) (zero-add (length list))
@@ -175,8 +182,8 @@ module _ (body : Body) (n room : ℕ) (is : n ≡ length (conflicts body)) where
   needed : 5 * n ≡ length (conflictBytes body)
   needed = omega (arith, bytes-length body)
 
-  pub too-few : room < 5 * n → Unlisted 42 (5 * n) ≡ listedIn body room
-  too-few h = let k : room < length (conflictBytes body) = omega (arith, needed) in rw (lt-ltb room (length (conflictBytes body)) k) (ap (Unlisted 42) needed)
+  pub too-few : room < 5 * n → Refused 42 (5 * n) ≡ listedIn body room
+  too-few h = let k : room < length (conflictBytes body) = omega (arith, needed) in rw (lt-ltb room (length (conflictBytes body)) k) (ap (Refused 42) needed)
 
   pub enough : (end : ℕ) → 5 * n ≤ room → end ≡ 0 + length (conflictBytes body) → Bytes end ≡ listedIn body room
   enough end h e = let k : length (conflictBytes body) ≤ room = omega (arith, needed) in rw (le-ltb room (length (conflictBytes body)) k) (ap Bytes (omega arith))

@@ -1,4 +1,4 @@
-// The conflict list of document 01, read off what the crate conflict finds of a body: its number of entries, and its bytes for any form. The meaning is in
+// The conflict list of document 01, read off what the crate path_sets finds of a body: its number of entries, and its bytes for any form. The meaning is in
 // specs/Answer.antt and in form's Conflict.
 ghost use mathlib.Core.Path.{_≡_};
 ghost use Prim.Native.Nat.{_+_, _≤_, _<_};
@@ -14,7 +14,7 @@ ghost use Rattle.listing.specs.Answer.{listedIn, listing, heldAfter};
 // What the conflict list answers: how many bytes it wrote, or the refusal's number and place.
 pub enum Listed {
     Bytes(usize),
-    Unlisted { number: u32, place: usize },
+    Refused { number: u32, place: usize },
 }
 
 // An entry's five bytes into `out` at `at`, where there is one; the place after it.
@@ -132,7 +132,7 @@ fn all_entries(
     at
 }
 
-fn firsts_number(p: path_sets::Firsts) -> usize
+fn firsts_number(p: sets::Firsts) -> usize
     requires { ⌜ (length (p .assigned) ≡ 64) × ((length (p .jump) ≡ 64) × (length (p .fall) ≡ 64)) ⌝ }
     ensures { λ r. ⌜ (r ≡ bitsOf (p .assigned) (p .jump) (p .fall)) × (r ≤ 12288) ⌝ }
 {
@@ -142,7 +142,7 @@ fn firsts_number(p: path_sets::Firsts) -> usize
     number_of(&a, &j, &f)
 }
 
-fn found_number(f: path_sets::Found) -> usize
+fn found_number(f: sets::Found) -> usize
     requires { ⌜ Rows (f .variable) (f .jumped .assigned) (f .jumped .jump) (f .jumped .fall) (f .fallen .assigned) (f .fallen .jump) (f .fallen .fall) ⌝ }
     ensures { λ r. ⌜ (r ≡ bitsOf (f .jumped .assigned) (f .jumped .jump) (f .jumped .fall) + bitsOf (f .fallen .assigned) (f .fallen .jump) (f .fallen .fall)) × (r ≤ 24576) ⌝ }
 {
@@ -151,7 +151,7 @@ fn found_number(f: path_sets::Found) -> usize
     firsts_number(p) + firsts_number(q)
 }
 
-fn found_entries(out: &mut [u8], f: path_sets::Found) -> usize
+fn found_entries(out: &mut [u8], f: sets::Found) -> usize
     requires { ⌜ Rows (f .variable) (f .jumped .assigned) (f .jumped .jump) (f .jumped .fall) (f .fallen .assigned) (f .fallen .jump) (f .fallen .fall) × (0 + length (allBytes (f .variable) (f .jumped .assigned) (f .jumped .jump) (f .jumped .fall) (f .fallen .assigned) (f .fallen .jump) (f .fallen .fall)) ≤ length (now out)) ⌝ }
     ensures { λ r. ⌜ (r ≡ 0 + length (allBytes (f .variable) (f .jumped .assigned) (f .jumped .jump) (f .jumped .fall) (f .fallen .assigned) (f .fallen .jump) (f .fallen .fall))) × (now (out .exit) ≡ sets (now (out .entry)) 0 (allBytes (f .variable) (f .jumped .assigned) (f .jumped .jump) (f .jumped .fall) (f .fallen .assigned) (f .fallen .jump) (f .fallen .fall))) ⌝ }
 {
@@ -171,10 +171,11 @@ fn list_of(body: form::Body, out: &mut [u8]) -> Listed
     requires { ⌜ Sound body ⌝ }
     ensures { λ r. ⌜ (r ≡ listedIn body (length (now (out .entry)))) × (now (out .exit) ≡ heldAfter r (conflictBytes body) (now (out .entry))) ⌝ }
 {
-    let f = path_sets::find(body);
+    let local = local_sets::local_of(body);
+    let f = path_sets::find(local);
     let bytes = 5 * found_number(f);
     if out.len() < bytes {
-        return Listed::Unlisted {
+        return Listed::Refused {
             number: 42,
             place: bytes,
         };
@@ -190,7 +191,7 @@ pub fn conflicts(form: &[u8], out: &mut [u8]) -> Listed
     let reading = reader::read(form);
     let verdict = reading.verdict;
     match verdict {
-        form::Verdict::Refused { number, place } => Listed::Unlisted { number, place },
+        form::Verdict::Refused { number, place } => Listed::Refused { number, place },
         form::Verdict::Accepted => {
             let body = reading.body;
             list_of(body, out)

@@ -1,5 +1,4 @@
--- The definitions that the contract of `local_of` cites, and what its proof shares.
-pub mod Local
+-- What the contracts of `local_of` and of the functions below it say, and what their proofs share. The sets themselves are sets' Local.
 pub mod Parts
 pub mod Sorting
 pub mod Turns

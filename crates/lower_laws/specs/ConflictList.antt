@@ -1,5 +1,5 @@
 -- The conflict list holds exactly the pairs that document 01 says (`conflicts-hold`), in the stated order (`conflicts-ascend`); the test of a clean path says exactly
--- that there is one (`clean-says`). Rests on form's Conflict, Conditions and the laws' Lists.
+-- that there is one (`clean-says`). Rests on form's Conflict, Conditions, Endings and the laws' Lists.
 use mathlib.Core.Path.{_≡_, refl, sym, ap, subst, _∙_}
 use mathlib.Core.Logic.{_↔_, _⊎_, inl, inr}
 use mathlib.Core.Bool.{Bool, true, false, not, cond, _||_, _&&_}
@@ -16,6 +16,7 @@ use Rattle.form.specs.declared.Body.{Body}
 use Rattle.form.specs.Conflict.{Edge, block, exitsBy, exits, isTest, condition, touches, opposes, denies, contradict, Onward, Clean, clean, leads, Pair, secondOf, assigned, crossed, assignmentPair, edgePair, pairsOf, conflicts, Assigned, Crossed, Holds, ascends}
 use Rattle.form.specs.Conflict.Clean.{here, onward}
 use Rattle.lower_laws.specs.Conditions.{contradict-says}
+use Rattle.lower_laws.specs.Endings.{by-exits}
 
 -- ---- clean paths
 
@@ -173,22 +174,14 @@ module _ (body : Body) (w : Onward body) where
 
 -- ---- the order
 
-ordered : (ending jump fall : ℕ) → Sorted (λ o q. ltb (o .0) (q .0)) (exitsBy ending jump fall)
-ordered zero j f = tt
-ordered (suc zero) j f = (λ y m. absurd m, tt)
-ordered (suc (suc zero)) j f = (only-two, (λ y m. absurd m, tt))
-  where
-    only-two : (y : ℕ × ℕ) → Mem y ((2, f) ∷ []) → ltb 1 (y .0) ≡ true
-    only-two y (inl e) = rw e
-ordered (suc (suc (suc zero))) j f = (only-two, (λ y m. absurd m, tt))
-  where
-    only-two : (y : ℕ × ℕ) → Mem y ((2, f) ∷ []) → ltb 1 (y .0) ≡ true
-    only-two y (inl e) = rw e
-ordered (suc (suc (suc (suc n)))) j f = tt
-
 pub exits-ordered : (body : Body) (b : ℕ) → Sorted (λ o q. ltb (o .0) (q .0)) (exits body b)
 unfolding exits
-exits-ordered body b = ordered (block body b .ending) (block body b .jump) (block body b .fall)
+exits-ordered body b =
+    let fall = block body b .fall in
+    by-exits (block body b .jump) fall (Sorted (λ o q. ltb (o .0) (q .0))) tt (λ y m. absurd m, tt) (only-two fall, (λ y m. absurd m, tt)) (block body b .ending)
+  where
+    only-two : (fall : ℕ) (y : ℕ × ℕ) → Mem y ((2, fall) ∷ []) → ltb 1 (y .0) ≡ true
+    only-two fall y (inl e) = rw e
 
 less : (a b : ℕ) (rest : Bool) → ltb a b ≡ true → next (ltb a b) (ltb b a) rest ≡ true
 less a b rest h = next-first ltb-order a b rest h

@@ -1,12 +1,12 @@
--- The conflict list by block and way: where a block's ways lead, clean paths block by block, the firsts of an edge, and the list as one list of pairs for each
--- edge of the 64 blocks (`conflicts-by-edge`); an edge that the list pairs with a first below a block (`listed-jump`, `listed-fall`). Rests on ConflictList, Listed and PairTest.
+-- The conflict list by block and way: clean paths block by block, the firsts of an edge, and the list as one list of pairs for each edge of the 64 blocks
+-- (`conflicts-by-edge`); an edge that the list pairs with a first below a block (`listed-way`). Rests on ConflictList, Listed, Endings and PairTest.
 use mathlib.Core.Path.{_≡_, refl, sym, ap, ap₂, subst, _∙_}
 use mathlib.Core.Logic.{_⊎_, inl, inr}
 use mathlib.Core.Bool.{Bool, true, false, not, cond, _||_, _&&_, and-false, or-false}
 use mathlib.Core.List.{List, [], _∷_, _++_, append-nil}
 use Prim.Native.Nat.{ℕ, zero, suc, _+_, _≤_, _<_}
 use native.Mathlib.Omega.{arith}
-use borrow.Author.Tests.{eqb-true, ltb-true, ltb-false, le-ltb}
+use borrow.Author.Tests.{eqb-true, ltb-true, ltb-false}
 use lib.Dec.{eqb, ltb}
 use lib.ListN.{length, take, length-take}
 use Rattle.laws.specs.Terms.{Mem, each, anyOf, any, range}
@@ -14,36 +14,12 @@ use Rattle.laws.specs.Tests.{clash, both, split, is-false, or-out, or-in-left, 
 use Rattle.laws.specs.Lists.{mem-left, mem-right, mem-append, each-out, each-in, each-same, range-in}
 use Rattle.form.specs.declared.Body.{Body}
 use Rattle.form.specs.declared.Block.{Block}
-use Rattle.form.specs.Form.{when}
-use Rattle.form.specs.Conflict.{Edge, noBlock, block, effectsOf, touches, lastOn, exitsBy, exits, isTest, condition, contradict, opposes, denies, Onward, clean, leads, Pair, assigned, crossed, assignmentPair, edgePair, pairsOf, conflicts, secondOf, listed}
+use Rattle.form.specs.Conflict.{Edge, noBlock, block, effectsOf, touches, lastOn, exitsBy, exits, wayTo, isTest, condition, contradict, opposes, denies, Onward, clean, leads, Pair, assigned, crossed, assignmentPair, edgePair, pairsOf, conflicts, secondOf, listed}
 use Rattle.lower_laws.specs.PairTest.{contradict-swap}
 use Rattle.lower_laws.specs.Blocks.{beyond}
+use Rattle.lower_laws.specs.Endings.{some-exit}
 use Rattle.lower_laws.specs.ConflictList.{clean-up, clean-says}
-use Rattle.lower_laws.specs.Listed.{listed-out, listed-in, clean-step as clean-by-exits}
-
--- ---- where the ways of a block lead; 64 stands for no such way
-
-abbrev pub target : Bool → ℕ → ℕ
-target has to = when has to 64
-
-abbrev pub jumpOf : Block → ℕ
-jumpOf k = target (ltb 0 (k .ending) && ltb (k .ending) 4) (k .jump)
-
-abbrev pub fallOf : Block → ℕ
-fallOf k = target (ltb 1 (k .ending) && ltb (k .ending) 4) (k .fall)
-
-pub above-three : (m : ℕ) (a : Bool) → (a && ltb (suc (suc (suc (suc m)))) 4) ≡ false
-above-three m a = rw (le-ltb (suc (suc (suc (suc m)))) 4 (omega arith), and-false a)
-
-pub some-exit : (X : ℕ → Bool) → X 64 ≡ false → (k : Block) → anyOf (λ o. X (o .1)) (exitsBy (k .ending) (k .jump) (k .fall)) ≡ (X (jumpOf k) || X (fallOf k))
-some-exit X none k = go (k .ending) (k .jump) (k .fall)
-  where
-    go : (e j f : ℕ) → anyOf (λ o. X (o .1)) (exitsBy e j f) ≡ (X (target (ltb 0 e && ltb e 4) j) || X (target (ltb 1 e && ltb e 4) f))
-    go zero j f = rw none
-    go (suc zero) j f = rw none
-    go (suc (suc zero)) j f = rw (or-false (X f))
-    go (suc (suc (suc zero))) j f = rw (or-false (X f))
-    go (suc (suc (suc (suc m)))) j f = rw (above-three m (ltb 0 (suc (suc (suc (suc m))))), above-three m (ltb 1 (suc (suc (suc (suc m))))), none)
+use Rattle.lower_laws.specs.Listed.{listed-out, listed-in, Way, clean-step as clean-by-exits}
 
 -- ---- lists of nothing, and longer ranges
 
@@ -118,57 +94,51 @@ module _ (body : Body) where
 
   -- ---- the firsts of an edge
 
-  unfoldable pub byJump : ℕ → Edge → Bool
-  byJump b e = opposes body (b, 1) e && clean body (condition body e .variable) (body .count) (jumpOf (block body b)) (e .0)
-
-  unfoldable pub byFall : ℕ → Edge → Bool
-  byFall b e = opposes body (b, 2) e && clean body (condition body e .variable) (body .count) (fallOf (block body b)) (e .0)
+  -- block b's edge by a way pairs with e
+  unfoldable pub byWay : (way b : ℕ) → Edge → Bool
+  byWay way b e = crossed body b (way, wayTo way (exits body b)) e
 
   -- the list pairs e as second with a first in block b
   unfoldable pub paired : ℕ → Edge → Bool
-  paired b e = assigned body b e || (byJump b e || byFall b e)
+  paired b e = assigned body b e || (byWay 1 b e || byWay 2 b e)
 
   -- the pairs with e second, by the first block of 64
   unfoldable pub edgePairs : Edge → List Pair
   edgePairs e =
       each (range 0 64) (λ b. cond (assigned body b e) (assignmentPair body e b ∷ []) [])
-      ++ each (range 0 64) (λ b. cond (byJump b e) (edgePair e b (1, 0) ∷ []) [] ++ cond (byFall b e) (edgePair e b (2, 0) ∷ []) [])
+      ++ each (range 0 64) (λ b. cond (byWay 1 b e) (edgePair e b (1, 0) ∷ []) [] ++ cond (byWay 2 b e) (edgePair e b (2, 0) ∷ []) [])
 
   pub assigned-none : (b : ℕ) (e : Edge) → denies body b e ≡ false → assigned body b e ≡ false
   unfolding assigned
   assigned-none b e d = rw d
 
-  crossed-none : (b : ℕ) (o : ℕ × ℕ) (e : Edge) → opposes body (b, o .0) e ≡ false → crossed body b o e ≡ false
+  pub crossed-none : (b : ℕ) (o : ℕ × ℕ) (e : Edge) → opposes body (b, o .0) e ≡ false → crossed body b o e ≡ false
   unfolding crossed
   crossed-none b o e d = rw d
 
-  pub jump-none : (b : ℕ) (e : Edge) → opposes body (b, 1) e ≡ false → byJump b e ≡ false
-  unfolding byJump
-  jump-none b e d = rw d
-
-  pub fall-none : (b : ℕ) (e : Edge) → opposes body (b, 2) e ≡ false → byFall b e ≡ false
-  unfolding byFall
-  fall-none b e d = rw d
+  pub way-none : (way b : ℕ) (e : Edge) → opposes body (b, way) e ≡ false → byWay way b e ≡ false
+  unfolding byWay
+  way-none way b e d = crossed-none b (way, wayTo way (exits body b)) e d
 
   -- an edge of no test is not in the list
   pub edge-none : (e : Edge) → isTest body (e .0) ≡ false → edgePairs e ≡ []
   unfolding edgePairs
   edge-none e t =
       ap₂ _++_ (each-nothing (range 0 64) (λ b. cond (assigned body b e) (assignmentPair body e b ∷ []) []) (λ b. rw (assigned-none b e (denies-test b e t))))
-      (each-nothing (range 0 64) (λ b. cond (byJump b e) (edgePair e b (1, 0) ∷ []) [] ++ cond (byFall b e) (edgePair e b (2, 0) ∷ []) [])
-      (λ b. rw (jump-none b e (opposes-test (b, 1) e t), fall-none b e (opposes-test (b, 2) e t))))
+      (each-nothing (range 0 64) (λ b. cond (byWay 1 b e) (edgePair e b (1, 0) ∷ []) [] ++ cond (byWay 2 b e) (edgePair e b (2, 0) ∷ []) [])
+      (λ b. rw (way-none 1 b e (opposes-test (b, 1) e t), way-none 2 b e (opposes-test (b, 2) e t))))
 
   pub paired-none : (b : ℕ) (e : Edge) → isTest body (e .0) ≡ false → paired b e ≡ false
   unfolding paired
-  paired-none b e t = rw (assigned-none b e (denies-test b e t), jump-none b e (opposes-test (b, 1) e t), fall-none b e (opposes-test (b, 2) e t))
+  paired-none b e t = rw (assigned-none b e (denies-test b e t), way-none 1 b e (opposes-test (b, 1) e t), way-none 2 b e (opposes-test (b, 2) e t))
 
   -- the pairs of b's edges
   test-ending : (b : ℕ) → isTest body b ≡ true → block body b .ending ≡ 3
   unfolding isTest
   test-ending b t = eqb-true (block body b .ending) 3 t
 
-  crossings : (b : ℕ) (e : Edge) → each (exits body b) (λ o. cond (crossed body b o e) (edgePair e b o ∷ []) []) ≡ cond (byJump b e) (edgePair e b (1, 0) ∷ []) [] ++ cond (byFall b e) (edgePair e b (2, 0) ∷ []) []
-  unfolding exits crossed byJump byFall
+  crossings : (b : ℕ) (e : Edge) → each (exits body b) (λ o. cond (crossed body b o e) (edgePair e b o ∷ []) []) ≡ cond (byWay 1 b e) (edgePair e b (1, 0) ∷ []) [] ++ cond (byWay 2 b e) (edgePair e b (2, 0) ∷ []) []
+  unfolding exits crossed byWay
   crossings b e = split (isTest body b)
       (λ t. rw (test-ending b t) (ap (λ l. cond (opposes body (b, 1) e && leads body (1, block body b .jump) e) (edgePair e b (1, 0) ∷ []) [] ++ l) (append-nil (cond (opposes body (b, 2) e && leads body (2, block body b .fall) e) (edgePair e b (2, 0) ∷ []) []))))
       (λ t. each-nothing (exitsBy (block body b .ending) (block body b .jump) (block body b .fall)) _ (λ o. rw (opposes-first (b, o .0) e t)) ∙ sym (rw (opposes-first (b, 1) e t, opposes-first (b, 2) e t)))
@@ -182,8 +152,8 @@ module _ (body : Body) where
         ap₂ _++_
         (each-longer (λ b. cond (assigned body b e) (assignmentPair body e b ∷ []) []) (body .count) 64 few (λ b h. rw (assigned-none b e (denies-none b e (past-count b h)))))
         (each-same (range 0 (body .count)) _ _ (λ b m. crossings b e)
-        ∙ each-longer (λ b. cond (byJump b e) (edgePair e b (1, 0) ∷ []) [] ++ cond (byFall b e) (edgePair e b (2, 0) ∷ []) []) (body .count) 64 few
-        (λ b h. let t = no-test b (past-count b h) in rw (jump-none b e (opposes-first (b, 1) e t), fall-none b e (opposes-first (b, 2) e t))))
+        ∙ each-longer (λ b. cond (byWay 1 b e) (edgePair e b (1, 0) ∷ []) [] ++ cond (byWay 2 b e) (edgePair e b (2, 0) ∷ []) []) (body .count) 64 few
+        (λ b h. let t = no-test b (past-count b h) in rw (way-none 1 b e (opposes-first (b, 1) e t), way-none 2 b e (opposes-first (b, 2) e t))))
 
     edges-is : (s : ℕ) → each (exits body s) (λ o. pairsOf body (s, o .0)) ≡ edgePairs (s, 1) ++ edgePairs (s, 2)
     unfolding exits
@@ -210,7 +180,7 @@ module _ (body : Body) where
     firstAssigned e b = cond (assigned body b e) (assignmentPair body e b ∷ []) []
 
     abbrev firstCrossed : Edge → ℕ → List Pair
-    firstCrossed e b = cond (byJump b e) (edgePair e b (1, 0) ∷ []) [] ++ cond (byFall b e) (edgePair e b (2, 0) ∷ []) []
+    firstCrossed e b = cond (byWay 1 b e) (edgePair e b (1, 0) ∷ []) [] ++ cond (byWay 2 b e) (edgePair e b (2, 0) ∷ []) []
 
     abbrev Of : Edge → Pair → Type 0
     Of e p = (p .second ≡ e .0) × (p .outcome ≡ e .1) × (paired (p .first) e ≡ true)
@@ -219,28 +189,28 @@ module _ (body : Body) where
     unfolding edgePairs paired
     pair-of e p m = go (mem-append p (each (range 0 64) (firstAssigned e)) (each (range 0 64) (firstCrossed e)) m)
       where
-        crossing : (b : ℕ) → Mem p (cond (byJump b e) (edgePair e b (1, 0) ∷ []) []) ⊎ Mem p (cond (byFall b e) (edgePair e b (2, 0) ∷ []) []) → (p .second ≡ e .0) × (p .outcome ≡ e .1) × ((assigned body (p .first) e || (byJump (p .first) e || byFall (p .first) e)) ≡ true)
-        crossing b (inl n) = let (h, q) = put-out (byJump b e) (edgePair e b (1, 0)) p n in
-            (ap (λ (p : Pair). p .second) q, ap (λ (p : Pair). p .outcome) q, or-in-right (assigned body (p .first) e) (or-in-left _ (ap (λ (p : Pair). byJump (p .first) e) q ∙ h)))
-        crossing b (inr n) = let (h, q) = put-out (byFall b e) (edgePair e b (2, 0)) p n in
-            (ap (λ (p : Pair). p .second) q, ap (λ (p : Pair). p .outcome) q, or-in-right (assigned body (p .first) e) (or-in-right (byJump (p .first) e) (ap (λ (p : Pair). byFall (p .first) e) q ∙ h)))
+        crossing : (b : ℕ) → Mem p (cond (byWay 1 b e) (edgePair e b (1, 0) ∷ []) []) ⊎ Mem p (cond (byWay 2 b e) (edgePair e b (2, 0) ∷ []) []) → (p .second ≡ e .0) × (p .outcome ≡ e .1) × ((assigned body (p .first) e || (byWay 1 (p .first) e || byWay 2 (p .first) e)) ≡ true)
+        crossing b (inl n) = let (h, q) = put-out (byWay 1 b e) (edgePair e b (1, 0)) p n in
+            (ap (λ (p : Pair). p .second) q, ap (λ (p : Pair). p .outcome) q, or-in-right (assigned body (p .first) e) (or-in-left _ (ap (λ (p : Pair). byWay 1 (p .first) e) q ∙ h)))
+        crossing b (inr n) = let (h, q) = put-out (byWay 2 b e) (edgePair e b (2, 0)) p n in
+            (ap (λ (p : Pair). p .second) q, ap (λ (p : Pair). p .outcome) q, or-in-right (assigned body (p .first) e) (or-in-right (byWay 1 (p .first) e) (ap (λ (p : Pair). byWay 2 (p .first) e) q ∙ h)))
 
-        go : Mem p (each (range 0 64) (firstAssigned e)) ⊎ Mem p (each (range 0 64) (firstCrossed e)) → (p .second ≡ e .0) × (p .outcome ≡ e .1) × ((assigned body (p .first) e || (byJump (p .first) e || byFall (p .first) e)) ≡ true)
+        go : Mem p (each (range 0 64) (firstAssigned e)) ⊎ Mem p (each (range 0 64) (firstCrossed e)) → (p .second ≡ e .0) × (p .outcome ≡ e .1) × ((assigned body (p .first) e || (byWay 1 (p .first) e || byWay 2 (p .first) e)) ≡ true)
         go (inl n) =
             let (b, i, k) = each-out (range 0 64) (firstAssigned e) p n in
             let (h, q) = put-out (assigned body b e) (assignmentPair body e b) p k in
             (ap (λ (p : Pair). p .second) q, ap (λ (p : Pair). p .outcome) q, or-in-left _ (ap (λ (p : Pair). assigned body (p .first) e) q ∙ h))
         go (inr n) =
             let (b, i, k) = each-out (range 0 64) (firstCrossed e) p n in
-            crossing b (mem-append p (cond (byJump b e) (edgePair e b (1, 0) ∷ []) []) (cond (byFall b e) (edgePair e b (2, 0) ∷ []) []) k)
+            crossing b (mem-append p (cond (byWay 1 b e) (edgePair e b (1, 0) ∷ []) []) (cond (byWay 2 b e) (edgePair e b (2, 0) ∷ []) []) k)
 
     pair-in : (e : Edge) (f : ℕ) → f < 64 → paired f e ≡ true → (p : Pair) × Mem p (edgePairs e) × (p .second ≡ e .0) × (p .outcome ≡ e .1) × (p .first ≡ f)
     unfolding edgePairs paired
     pair-in e f l h = or-out (assigned body f e) _ h
         (λ k. (assignmentPair body e f, mem-left _ (each (range 0 64) (firstAssigned e)) (each (range 0 64) (firstCrossed e)) (each-in (range 0 64) (firstAssigned e) f _ here-in (put-in (assigned body f e) _ k)), refl, refl, refl))
-        (λ k. or-out (byJump f e) _ k
-        (λ k. (edgePair e f (1, 0), crossing (edgePair e f (1, 0)) (mem-left _ (cond (byJump f e) (edgePair e f (1, 0) ∷ []) []) (cond (byFall f e) (edgePair e f (2, 0) ∷ []) []) (put-in (byJump f e) _ k)), refl, refl, refl))
-        (λ k. (edgePair e f (2, 0), crossing (edgePair e f (2, 0)) (mem-right _ (cond (byJump f e) (edgePair e f (1, 0) ∷ []) []) (cond (byFall f e) (edgePair e f (2, 0) ∷ []) []) (put-in (byFall f e) _ k)), refl, refl, refl)))
+        (λ k. or-out (byWay 1 f e) _ k
+        (λ k. (edgePair e f (1, 0), crossing (edgePair e f (1, 0)) (mem-left _ (cond (byWay 1 f e) (edgePair e f (1, 0) ∷ []) []) (cond (byWay 2 f e) (edgePair e f (2, 0) ∷ []) []) (put-in (byWay 1 f e) _ k)), refl, refl, refl))
+        (λ k. (edgePair e f (2, 0), crossing (edgePair e f (2, 0)) (mem-right _ (cond (byWay 1 f e) (edgePair e f (1, 0) ∷ []) []) (cond (byWay 2 f e) (edgePair e f (2, 0) ∷ []) []) (put-in (byWay 2 f e) _ k)), refl, refl, refl)))
       where
         here-in : Mem f (range 0 64)
         here-in = range-in 0 64 f (omega arith) l
@@ -270,11 +240,12 @@ module _ (body : Body) where
         (λ i. (x i, y i)) (omega arith)
 
     -- an edge is listed below b: by the list, and by its firsts
-    pub listed-jump : (b s : ℕ) → b ≤ 64 → s < 64 → any b (λ f. paired f (s, 1)) ≡ listed (conflicts body) b (s, 1)
-    listed-jump b s h l = both _ _ (firsts-in b s 1 h l (λ p m. mem-left p (edgePairs (s, 1)) (edgePairs (s, 2)) m)) (firsts-out b (s, 1))
-
-    pub listed-fall : (b s : ℕ) → b ≤ 64 → s < 64 → any b (λ f. paired f (s, 2)) ≡ listed (conflicts body) b (s, 2)
-    listed-fall b s h l = both _ _ (firsts-in b s 2 h l (λ p m. mem-right p (edgePairs (s, 1)) (edgePairs (s, 2)) m)) (firsts-out b (s, 2))
+    pub listed-way : (b s way : ℕ) → Way way → b ≤ 64 → s < 64 → any b (λ f. paired f (s, way)) ≡ listed (conflicts body) b (s, way)
+    listed-way b s way w h l = both _ _ (firsts-in b s way h l (among way w)) (firsts-out b (s, way))
+      where
+        among : (way : ℕ) → Way way → (p : Pair) → Mem p (edgePairs (s, way)) → Mem p (both-ways s)
+        among way (inl e) p m = mem-left p (edgePairs (s, 1)) (edgePairs (s, 2)) (subst (λ (v : ℕ). Mem p (edgePairs (s, v))) e m)
+        among way (inr e) p m = mem-right p (edgePairs (s, 1)) (edgePairs (s, 2)) (subst (λ (v : ℕ). Mem p (edgePairs (s, v))) e m)
 
     -- an edge of no test is not listed
     pub listed-none : (b : ℕ) (e : Edge) → isTest body (e .0) ≡ false → listed (conflicts body) b e ≡ false
@@ -296,9 +267,9 @@ module _ (body : Body) (w : Onward body) (v s : ℕ) (real : s < body .count) wh
     none-at-64 : leadsFrom 64 ≡ false
     none-at-64 = clean-top 64 (omega arith)
 
-    pub some-way : (b : ℕ) → anyOf (λ o. leadsFrom (o .1)) (exits body b) ≡ (leadsFrom (jumpOf (block body b)) || leadsFrom (fallOf (block body b)))
+    pub some-way : (b : ℕ) → anyOf (λ o. leadsFrom (o .1)) (exits body b) ≡ (leadsFrom (wayTo 1 (exits body b)) || leadsFrom (wayTo 2 (exits body b)))
     unfolding exits
-    some-way b = some-exit leadsFrom none-at-64 (block body b)
+    some-way b = some-exit leadsFrom none-at-64 (block body b .ending) (block body b .jump) (block body b .fall)
 
-    pub clean-step : (b : ℕ) → leadsFrom b ≡ (not (touches body b v) && (eqb b s || (leadsFrom (jumpOf (block body b)) || leadsFrom (fallOf (block body b)))))
+    pub clean-step : (b : ℕ) → leadsFrom b ≡ (not (touches body b v) && (eqb b s || (leadsFrom (wayTo 1 (exits body b)) || leadsFrom (wayTo 2 (exits body b)))))
     clean-step b = clean-by-exits body w v b s real ∙ ap (λ x. not (touches body b v) && (eqb b s || x)) (some-way b)

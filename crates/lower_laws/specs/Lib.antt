@@ -6,6 +6,7 @@ pub mod Loops
 pub mod Conditions
 pub mod PairTest
 pub mod Blocks
+pub mod Endings
 pub mod Effects
 pub mod ConflictList
 pub mod Listed

@@ -3,7 +3,7 @@
 use mathlib.Core.Path.{_≡_, refl, ap, subst}
 use mathlib.Core.Logic.{_⊎_, inl, inr}
 use mathlib.Core.Bool.{Bool, true, not, _||_, _&&_}
-use mathlib.Core.List.{List}
+use mathlib.Core.List.{List, [], _∷_}
 use Prim.Native.Nat.{ℕ, zero, suc, _<_}
 use borrow.Author.Tests.{eqb-true, ltb-true, lt-ltb}
 use lib.Dec.{eqb, ltb}
@@ -13,6 +13,7 @@ use Rattle.laws.specs.Lists.{anyOf-out, anyOf-in}
 use Rattle.form.specs.declared.Body.{Body}
 use Rattle.form.specs.Conflict.{Edge, block, exitsBy, exits, isTest, condition, touches, contradict, opposes, denies, Onward, Clean, clean, Pair, secondOf, same, listed, assigned, crossed, assignmentPair, edgePair, conflicts, Assigned, Crossed, Holds}
 use Rattle.form.specs.Conflict.Clean.{here, onward}
+use Rattle.lower_laws.specs.Endings.{by-exits}
 use Rattle.lower_laws.specs.ConflictList.{clean-says, assigned-says, crossed-out, crossed-in, conflicts-hold}
 
 -- ---- edges
@@ -26,15 +27,6 @@ same-eq x e h = let (p, q) = and-out (eqb (x .0) (e .0)) _ h in λ i. (eqb-true 
 abbrev pub Way : ℕ → Type 0
 Way w = (w ≡ 1) ⊎ (w ≡ 2)
 
-ways : (ending jump fall : ℕ) (o : ℕ × ℕ) → Mem o (exitsBy ending jump fall) → Way (o .0)
-ways zero j f o m = absurd m
-ways (suc zero) j f o (inl p) = inl (ap (λ (q : ℕ × ℕ). q .0) p)
-ways (suc (suc zero)) j f o (inl p) = inl (ap (λ (q : ℕ × ℕ). q .0) p)
-ways (suc (suc zero)) j f o (inr (inl p)) = inr (ap (λ (q : ℕ × ℕ). q .0) p)
-ways (suc (suc (suc zero))) j f o (inl p) = inl (ap (λ (q : ℕ × ℕ). q .0) p)
-ways (suc (suc (suc zero))) j f o (inr (inl p)) = inr (ap (λ (q : ℕ × ℕ). q .0) p)
-ways (suc (suc (suc (suc n)))) j f o m = absurd m
-
 both-ways : (jump fall v : ℕ) → Way v → (t : ℕ) × Mem (v, t) (exitsBy 3 jump fall)
 both-ways j f v (inl p) = (j, inl (λ i. (p i, j)))
 both-ways j f v (inr p) = (f, inr (inl (λ i. (p i, f))))
@@ -42,7 +34,15 @@ both-ways j f v (inr p) = (f, inr (inl (λ i. (p i, f))))
 module _ (body : Body) where
   pub way-of : (b : ℕ) (o : ℕ × ℕ) → Mem o (exits body b) → Way (o .0)
   unfolding exits
-  way-of b o m = ways (block body b .ending) (block body b .jump) (block body b .fall) o m
+  way-of b =
+      by-exits (block body b .jump) (block body b .fall) (λ l. (o : ℕ × ℕ) → Mem o l → Way (o .0)) (λ o m. absurd m) one two (block body b .ending)
+    where
+      one : {to : ℕ} (o : ℕ × ℕ) → Mem o ((1, to) ∷ []) → Way (o .0)
+      one o (inl p) = inl (ap (λ (q : ℕ × ℕ). q .0) p)
+
+      two : {to next : ℕ} (o : ℕ × ℕ) → Mem o ((1, to) ∷ (2, next) ∷ []) → Way (o .0)
+      two o (inl p) = inl (ap (λ (q : ℕ × ℕ). q .0) p)
+      two o (inr (inl p)) = inr (ap (λ (q : ℕ × ℕ). q .0) p)
 
   -- an exit of the body
   abbrev pub Real : Edge → Type 0

@@ -1,5 +1,5 @@
--- Every row of the table has what is claimed of it: one test that the checker computes over the whole table, and one law that turns it into the claim at each row.
--- Rests on Table, and on what relations proves of counts and conditions.
+-- Every row of the table has what is claimed of it: one test that the checker computes over the whole table, and one
+-- law that turns it into the claim at each row. Rests on Table, and on what lower_laws proves of counts and conditions.
 use mathlib.Core.Bool.{Bool, true, false, not, _&&_}
 use mathlib.Core.List.{List, [], _∷_}
 use mathlib.Core.Logic.{inl, inr}
@@ -14,7 +14,7 @@ use lib.ListN.{length}
 use lib.Signed.{mag}
 use mir.Syntax.{w32}
 use mir.Val.{SFits}
-use Rattle.laws.specs.Terms.{Mem, heavier}
+use Rattle.laws.specs.Terms.{Mem}
 use Rattle.laws.specs.Tests.{and-out, not-out, clash}
 use Rattle.form.specs.declared.Body.{Body}
 use Rattle.form.specs.declared.Verdict.{Verdict}
@@ -26,7 +26,8 @@ use Rattle.form.specs.Form.{kindOf, startsFor, recordsFrom, badField, badTarget
 use Rattle.lower_laws.specs.Conditions.{contradict-says}
 use Rattle.lower_laws.specs.Loops.{countOf, count-found}
 use Rattle.lower_laws.specs.Steps.{later, first, within, found-none, found-some}
-use Rattle.theory.specs.Route.{Path, stepCost, paths, conflict, tails, weight, best, bestRoute, wayOf, routeBytes}
+use Rattle.theory.specs.Route.{Path, paths, conflict, tails, weight, best, bestRoute, dearest, routeOn, wayOf}
+use Rattle.theory.specs.Route.{routeBytes}
 use Rattle.marked.specs.Table.{Case, counts, refused, conflicting, compatible, route, on, Claim, table}
 
 fits : ℤ → Bool
@@ -58,7 +59,7 @@ right (conflicting r c q d) = contradict (on r c) (on q d)
 right (compatible r c q d) = not (contradict (on r c) (on q d))
 right (route form bytes) =
     accepted (judge form)
-    && (ltb 0 (length bytes) && alike (bytesOf (bodyOf form) (bestRoute (bodyOf form) (stepCost (bodyOf form)) heavier)) bytes)
+    && (ltb 0 (length bytes) && alike (bytesOf (bodyOf form) (routeOn (bodyOf form) (dearest (bodyOf form)))) bytes)
 
 -- the law of a row
 
@@ -96,7 +97,8 @@ law (route form bytes) h =
     let (a, r) = and-out (accepted (judge form)) _ h in
     let (p, e) = and-out (ltb 0 (length bytes)) _ r in (
       is-accepted (judge form) a,
-      found-route (bodyOf form) bytes (bestRoute (bodyOf form) (stepCost (bodyOf form)) heavier) (ltb-true 0 (length bytes) p) (alike-out _ bytes e),
+      found-route (bodyOf form) bytes (routeOn (bodyOf form) (dearest (bodyOf form))) (ltb-true 0 (length bytes) p)
+          (alike-out _ bytes e),
     )
 
 -- the test of the whole table, computed, and its law at each row

@@ -1,16 +1,15 @@
--- The marked cases of document 01, 'The trainer's cases', as one table, and what is claimed of a row. Trusted: definitions only. Rests on the trusted
--- definitions of form and theory.
+-- The marked cases of document 01, 'The trainer's cases', as one table, and what is claimed of a row. Trusted:
+-- definitions only. Rests on the trusted definitions of form and theory.
 use mathlib.Core.List.{List, [], _∷_}
 use mathlib.Core.Option.{some}
 use mathlib.Core.Path.{_≡_}
 use Prim.Native.Nat.{ℕ}
 use lib.IntN.{ℤ, pos}
-use Rattle.laws.specs.Terms.{heavier}
 use Rattle.form.specs.declared.Verdict.the-variants.{Accepted}
 use Rattle.form.specs.Conflict.{Condition, Contradict}
 use Rattle.form.specs.Counter.{Count}
 use Rattle.form.specs.Form.{judge, bodyOf}
-use Rattle.theory.specs.Route.{Path, stepCost, bestRoute, routeBytes}
+use Rattle.theory.specs.Route.{Path, dearest, routeOn, routeBytes}
 
 pub data Case : Type 0 where
   -- initial, step, relation, limit: the loop count, or 20
@@ -32,7 +31,8 @@ Claim (conflicting r c q d) = Contradict (on r c) (on q d)
 Claim (compatible r c q d) = Contradict (on r c) (on q d) → ⊥
 Claim (route form bytes) =
     (judge form ≡ Accepted)
-    × ((best : ℕ × Path) × (bestRoute (bodyOf form) (stepCost (bodyOf form)) heavier ≡ some best) × (routeBytes (bodyOf form) (best .1) ≡ bytes))
+    × ((best : ℕ × Path) × (routeOn (bodyOf form) (dearest (bodyOf form)) ≡ some best)
+    × (routeBytes (bodyOf form) (best .1) ≡ bytes))
 
 -- Relations: 0 =, 1 ≠, 2 <, 3 ≥, 4 >, 5 ≤
 abbrev pub trainersForm : List ℕ

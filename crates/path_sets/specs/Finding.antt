@@ -1,305 +1,235 @@
--- From what the functions' words and lists say of one another to what they say of the body: the sets and the firsts are those of the definitions.
--- Rests on Parts, Sets, edges.Local and relations.Joined.
+-- From what the functions' words and lists say of one another to what they say of the body: what is found is as defined (`found-is`), and what it tells bit by bit
+-- (`found-told`). Rests on Parts, on sets' Local and Found and on lower_laws' Joined.
 use mathlib.Core.Path.{_≡_, refl, sym, ap, subst, _∙_}
 use mathlib.Core.Logic.{_⊎_, inl, inr}
 use mathlib.Core.Bool.{Bool, true, false, not, _&&_, _||_, or-comm}
 use mathlib.Core.List.{List}
-use Prim.Native.Nat.{ℕ, zero, suc, _≤_, _<_}
+use Prim.Native.Nat.{ℕ, _≤_, _<_}
 use native.Mathlib.Omega.{arith}
-use lib.Dec.{eqb, ltb}
+use lib.Dec.{eqb}
 use lib.ListN.{length, getD}
-use Rattle.laws.specs.Terms.{bit, any, anyOf, Mem}
+use Rattle.laws.specs.Terms.{bit, any, anyOf, setOf}
 use Rattle.laws.specs.Tests.{split, any-same, any-none}
 use Rattle.laws.specs.Sets.{bit-none, below-or-not}
-use Rattle.words.specs.Filled.{Told, told-as, told-rows, rows-told, set-bits, tabled-at, tabled-length}
+use Rattle.words.specs.Tabled.{tabled, rows}
+use Rattle.words.specs.Filled.{Told, told-as, told-rows, rows-bit, rows-told, set-bits, tabled-at, tabled-length}
 use Rattle.form.specs.declared.Body.{Body}
 use Rattle.form.specs.declared.Block.{Block}
-use Rattle.form.specs.Conflict.{noBlock, block, touches, exitsBy, exits, isTest, condition, opposes, denies, Onward, Sound, clean, assigned, listed, conflicts}
+use Rattle.form.specs.Conflict.{Edge, noBlock, block, touches, exitsBy, exits, wayTo, isTest, condition, opposes, denies, Sound, clean, assigned, crossed, listed, conflicts}
 use Rattle.lower_laws.specs.Blocks.{beyond}
-use Rattle.lower_laws.specs.Joined.{above-three, target, jumpOf, fallOf, past-count, no-test, denies-none, denies-test, opposes-test, opposes-swap, byJump, byFall, paired, test-real, clean-top, clean-step, some-way, listed-jump, listed-fall, listed-none}
-use Rattle.local_sets.specs.declared.Local.{Local}
-use Rattle.local_sets.specs.Local.{wayTo, localOf}
-use Rattle.local_sets.specs.Finding.{way-jump, way-fall}
-use Rattle.path_sets.specs.declared.Firsts.{Firsts}
-use Rattle.local_sets.specs.declared.Edges.{Edges}
-use Rattle.path_sets.specs.Sets.{setsOf}
-use Rattle.path_sets.specs.Parts.{EitherAt, ListedAt, Paths, AssignedAt, LedAt, OnTest, FirstsOf, FirstsBy, Above, ListedOf, FoundOf}
+use Rattle.lower_laws.specs.Listed.{Way}
+use Rattle.lower_laws.specs.Joined.{past-count, no-test, denies-none, denies-test, opposes-first, opposes-test, opposes-swap, assigned-none, byWay, way-none, paired, test-real, clean-top, clean-step, some-way, listed-way, listed-none}
+use Rattle.sets.specs.declared.Local.{Local}
+use Rattle.sets.specs.declared.Edges.{Edges}
+use Rattle.sets.specs.declared.Firsts.{Firsts}
+use Rattle.sets.specs.declared.Sets.{Sets}
+use Rattle.sets.specs.declared.Found.{Found}
+use Rattle.sets.specs.Local.{localOf}
+use Rattle.sets.specs.Found.{setsOf, firstsOf, foundOf}
+use Rattle.path_sets.specs.Parts.{EitherAt, ListedAt, Paths, AssignedAt, LedAt, OnTest, FirstsOf, ListedOf, Bits, FirstsBy, FoundBy}
 
--- bits of a row b that has a word for each block
-abbrev pub Bits : (ℕ → ℕ → Bool) → ℕ → ℕ → Type 0
-Bits f b x = (k : ℕ) → bit x k ≡ f b k
-
-jump-real : (k : Block) → (jumpOf k ≡ 64) ⊎ Mem (1, jumpOf k) (exitsBy (k .ending) (k .jump) (k .fall))
-jump-real k = go (k .ending) (k .jump) (k .fall)
-  where
-    go : (e j f : ℕ) → (target (ltb 0 e && ltb e 4) j ≡ 64) ⊎ Mem (1, target (ltb 0 e && ltb e 4) j) (exitsBy e j f)
-    go zero j f = inl refl
-    go (suc zero) j f = inr (inl refl)
-    go (suc (suc zero)) j f = inr (inl refl)
-    go (suc (suc (suc zero))) j f = inr (inl refl)
-    go (suc (suc (suc (suc m)))) j f = inl (rw (above-three m (ltb 0 (suc (suc (suc (suc m)))))))
-
-fall-real : (k : Block) → (fallOf k ≡ 64) ⊎ Mem (2, fallOf k) (exitsBy (k .ending) (k .jump) (k .fall))
-fall-real k = go (k .ending) (k .jump) (k .fall)
-  where
-    go : (e j f : ℕ) → (target (ltb 1 e && ltb e 4) f ≡ 64) ⊎ Mem (2, target (ltb 1 e && ltb e 4) f) (exitsBy e j f)
-    go zero j f = inl refl
-    go (suc zero) j f = inl refl
-    go (suc (suc zero)) j f = inr (inr (inl refl))
-    go (suc (suc (suc zero))) j f = inr (inr (inl refl))
-    go (suc (suc (suc (suc m)))) j f = inl (rw (above-three m (ltb 1 (suc (suc (suc (suc m)))))))
-
-module _ (body : Body) (sound : Sound body) where
-  -- past the blocks nothing is in a set
+module _ (body : Body) (few : body .count ≤ 64) where
+  -- ---- past the blocks nothing is in a set
   none-past : (k : ℕ) → 64 ≤ k → block body k ≡ noBlock
-  none-past k h = past-count body k (omega (arith, sound .few))
+  none-past k h = past-count body k (omega arith)
 
   off : (k : ℕ) → 64 ≤ k → isTest body k ≡ false
   off k h = no-test body k (none-past k h)
 
+  assigned-off : (j : ℕ) (e : Edge) → 64 ≤ j → assigned body j e ≡ false
+  assigned-off j e h = assigned-none body j e (denies-none body j e (none-past j h))
+
+  way-off : (to j : ℕ) (e : Edge) → 64 ≤ j → byWay body to j e ≡ false
+  way-off to j e h = way-none body to j e (opposes-first body (j, to) e (off j h))
+
+  -- ---- the firsts of the edges by one way, whole and bit by bit
+  module _ (way : ℕ) (p : Firsts) where
+    firsts-told : p ≡ firstsOf body way → FirstsBy body way p
+    unfolding firstsOf byWay
+    firsts-told e = subst (FirstsBy body way) (sym e) (record {
+      assigned = rows-told (λ s j. assigned body j (s, way)) (λ s j h. assigned-off j (s, way) h);
+      jumps = rows-told (λ s j. byWay body 1 j (s, way)) (λ s j h. way-off 1 j (s, way) h);
+      falls = rows-told (λ s j. byWay body 2 j (s, way)) (λ s j h. way-off 2 j (s, way) h);
+    })
+
+    firsts-are : FirstsBy body way p → p ≡ firstsOf body way
+    unfolding firstsOf byWay
+    firsts-are f = λ i. record {
+      assigned = told-rows (λ s j. assigned body j (s, way)) (λ s j h. assigned-off j (s, way) h) (p .assigned) (f .assigned) i;
+      jump = told-rows (λ s j. byWay body 1 j (s, way)) (λ s j h. way-off 1 j (s, way) h) (p .jump) (f .jumps) i;
+      fall = told-rows (λ s j. byWay body 2 j (s, way)) (λ s j h. way-off 2 j (s, way) h) (p .fall) (f .falls) i;
+    }
+
+  pub found-told : (f : Found) → f ≡ foundOf body → FoundBy body f
+  unfolding foundOf
+  found-told f e = subst (FoundBy body) (sym e) (record {
+    variables = record { size = tabled-length (λ k. block body k .variable) 64; at = λ k h. tabled-at (λ k. block body k .variable) 64 k 0 h };
+    jumped = firsts-told 1 (firstsOf body 1) refl;
+    fallen = firsts-told 2 (firstsOf body 2) refl;
+  })
+
+module _ (body : Body) (sound : Sound body) where
+  few : body .count ≤ 64
+  few = sound .few
+
   -- ---- what the blocks say by themselves
-  module _ (own : Local) (is : own ≡ localOf body) where
-    jumps : Told 64 (λ b x. x ≡ jumpOf (block body b)) 64 64 (own .targets .jump)
-    unfolding localOf exits
-    jumps =
-        subst (λ (x : Local). Told 64 (λ b y. y ≡ jumpOf (block body b)) 64 64 (x .targets .jump)) (sym is)
-        (record { size = tabled-length (λ b. wayTo 1 (exits body b)) 64; at = λ b h. tabled-at (λ b. wayTo 1 (exits body b)) 64 b 64 h ∙ way-jump (block body b) })
+  abbrev targets : (way : ℕ) → List ℕ
+  targets way = tabled 64 (λ b. wayTo way (exits body b))
 
-    falls : Told 64 (λ b x. x ≡ fallOf (block body b)) 64 64 (own .targets .fall)
-    unfolding localOf exits
-    falls =
-        subst (λ (x : Local). Told 64 (λ b y. y ≡ fallOf (block body b)) 64 64 (x .targets .fall)) (sym is)
-        (record { size = tabled-length (λ b. wayTo 2 (exits body b)) 64; at = λ b h. tabled-at (λ b. wayTo 2 (exits body b)) 64 b 64 h ∙ way-fall (block body b) })
+  abbrev touching : ℕ → ℕ → Bool
+  touching b k = isTest body k && touches body b (block body k .variable)
 
-    touch : Told 0 (Bits (λ b k. isTest body k && touches body b (block body k .variable))) 64 64 (own .touched)
-    unfolding localOf
-    touch =
-        subst (λ (x : Local). Told 0 (Bits (λ b k. isTest body k && touches body b (block body k .variable))) 64 64 (x .touched)) (sym is)
-        (rows-told (λ b k. isTest body k && touches body b (block body k .variable)) (λ b k h. rw (off k h)))
+  abbrev denying : (way : ℕ) → ℕ → ℕ → Bool
+  denying way b k = denies body b (k, way)
 
-    deny-jump : Told 0 (Bits (λ b k. denies body b (k, 1))) 64 64 (own .denied .jump)
-    unfolding localOf
-    deny-jump =
-        subst (λ (x : Local). Told 0 (Bits (λ b k. denies body b (k, 1))) 64 64 (x .denied .jump)) (sym is)
-        (rows-told (λ b k. denies body b (k, 1)) (λ b k h. denies-test body b (k, 1) (off k h)))
+  abbrev opposing : (one two : ℕ) → ℕ → ℕ → Bool
+  opposing one two b k = opposes body (b, one) (k, two)
 
-    deny-fall : Told 0 (Bits (λ b k. denies body b (k, 2))) 64 64 (own .denied .fall)
-    unfolding localOf
-    deny-fall =
-        subst (λ (x : Local). Told 0 (Bits (λ b k. denies body b (k, 2))) 64 64 (x .denied .fall)) (sym is)
-        (rows-told (λ b k. denies body b (k, 2)) (λ b k h. denies-test body b (k, 2) (off k h)))
+  target-all : (way b : ℕ) → getD (targets way) b 64 ≡ wayTo way (exits body b)
+  unfolding exits
+  target-all way b = go (below-or-not b 64)
+    where
+      go : (b < 64) ⊎ (64 ≤ b) → getD (targets way) b 64 ≡ wayTo way (exits body b)
+      go (inl h) = tabled-at (λ b. wayTo way (exits body b)) 64 b 64 h
+      go (inr h) =
+          beyond (targets way) b 64 (omega (arith, tabled-length (λ b. wayTo way (exits body b)) 64))
+          ∙ sym (ap (λ (k : Block). wayTo way (exitsBy (k .ending) (k .jump) (k .fall))) (none-past body few b h))
 
-    jump-jump : Told 0 (Bits (λ b k. opposes body (b, 1) (k, 1))) 64 64 (own .jumping .jump)
-    unfolding localOf
-    jump-jump =
-        subst (λ (x : Local). Told 0 (Bits (λ b k. opposes body (b, 1) (k, 1))) 64 64 (x .jumping .jump)) (sym is)
-        (rows-told (λ b k. opposes body (b, 1) (k, 1)) (λ b k h. opposes-test body (b, 1) (k, 1) (off k h)))
+  denied-bit : (way j s : ℕ) → bit (getD (rows (denying way)) j 0) s ≡ denies body j (s, way)
+  denied-bit way j s = go (below-or-not j 64)
+    where
+      told : Told 0 (Bits (denying way)) 64 64 (rows (denying way))
+      told = rows-told (denying way) (λ b k h. denies-test body b (k, way) (off body few k h))
 
-    jump-fall : Told 0 (Bits (λ b k. opposes body (b, 1) (k, 2))) 64 64 (own .jumping .fall)
-    unfolding localOf
-    jump-fall =
-        subst (λ (x : Local). Told 0 (Bits (λ b k. opposes body (b, 1) (k, 2))) 64 64 (x .jumping .fall)) (sym is)
-        (rows-told (λ b k. opposes body (b, 1) (k, 2)) (λ b k h. opposes-test body (b, 1) (k, 2) (off k h)))
+      go : (j < 64) ⊎ (64 ≤ j) → bit (getD (rows (denying way)) j 0) s ≡ denies body j (s, way)
+      go (inl h) = told .at j h s
+      go (inr h) =
+          ap (λ x. bit x s) (beyond (rows (denying way)) j 0 (omega (arith, told .size))) ∙ bit-none s ∙ sym (denies-none body j (s, way) (none-past body few j h))
 
-    fall-jump : Told 0 (Bits (λ b k. opposes body (b, 2) (k, 1))) 64 64 (own .falling .jump)
-    unfolding localOf
-    fall-jump =
-        subst (λ (x : Local). Told 0 (Bits (λ b k. opposes body (b, 2) (k, 1))) 64 64 (x .falling .jump)) (sym is)
-        (rows-told (λ b k. opposes body (b, 2) (k, 1)) (λ b k h. opposes-test body (b, 2) (k, 1) (off k h)))
+  opposed-bit : (one two s j : ℕ) → s < 64 → bit (getD (rows (opposing one two)) s 0) j ≡ opposes body (s, one) (j, two)
+  opposed-bit one two s j h = rows-bit (opposing one two) (λ b k l. opposes-test body (b, one) (k, two) (off body few k l)) s h j
 
-    fall-fall : Told 0 (Bits (λ b k. opposes body (b, 2) (k, 2))) 64 64 (own .falling .fall)
-    unfolding localOf
-    fall-fall =
-        subst (λ (x : Local). Told 0 (Bits (λ b k. opposes body (b, 2) (k, 2))) 64 64 (x .falling .fall)) (sym is)
-        (rows-told (λ b k. opposes body (b, 2) (k, 2)) (λ b k h. opposes-test body (b, 2) (k, 2) (off k h)))
+  -- ---- clean paths
+  abbrev leading : ℕ → ℕ → Bool
+  leading s b = clean body (block body s .variable) (body .count) b s
 
-    tests-bit : (k : ℕ) → bit (own .tests) k ≡ isTest body k
-    unfolding localOf
-    tests-bit k = ap (λ (x : Local). bit (x .tests) k) is ∙ set-bits (isTest body) off k
-
-    variables : Told 0 (λ k x. x ≡ block body k .variable) 64 64 (own .variable)
-    unfolding localOf
-    variables =
-        subst (λ (x : Local). Told 0 (λ k y. y ≡ block body k .variable) 64 64 (x .variable)) (sym is)
-        (record { size = tabled-length (λ b. block body b .variable) 64; at = λ b h. tabled-at (λ b. block body b .variable) 64 b 0 h })
-
-    -- ---- targets
-    jump-all : (b : ℕ) → getD (own .targets .jump) b 64 ≡ jumpOf (block body b)
-    jump-all b = go (below-or-not b 64)
-      where
-        go : (b < 64) ⊎ (64 ≤ b) → getD (own .targets .jump) b 64 ≡ jumpOf (block body b)
-        go (inl h) = jumps .at b h
-        go (inr h) = beyond (own .targets .jump) b 64 (omega (arith, jumps .size)) ∙ sym (ap jumpOf (none-past b h))
-
-    fall-all : (b : ℕ) → getD (own .targets .fall) b 64 ≡ fallOf (block body b)
-    fall-all b = go (below-or-not b 64)
-      where
-        go : (b < 64) ⊎ (64 ≤ b) → getD (own .targets .fall) b 64 ≡ fallOf (block body b)
-        go (inl h) = falls .at b h
-        go (inr h) = beyond (own .targets .fall) b 64 (omega (arith, falls .size)) ∙ sym (ap fallOf (none-past b h))
-
-    jump-above : Onward body → (b : ℕ) → b < 64 → b < getD (own .targets .jump) b 64
-    unfolding exits
-    jump-above w b h = rw (jump-all b) (go (jump-real (block body b)))
-      where
-        go : (jumpOf (block body b) ≡ 64) ⊎ Mem (1, jumpOf (block body b)) (exits body b) → b < jumpOf (block body b)
-        go (inl e) = rw e h
-        go (inr m) = w .above b (1, jumpOf (block body b)) m
-
-    fall-above : Onward body → (b : ℕ) → b < 64 → b < getD (own .targets .fall) b 64
-    unfolding exits
-    fall-above w b h = rw (fall-all b) (go (fall-real (block body b)))
-      where
-        go : (fallOf (block body b) ≡ 64) ⊎ Mem (2, fallOf (block body b)) (exits body b) → b < fallOf (block body b)
-        go (inl e) = rw e h
-        go (inr m) = w .above b (2, fallOf (block body b)) m
-
-    -- ---- clean paths
-    abbrev leading : ℕ → ℕ → Bool
-    leading s b = clean body (block body s .variable) (body .count) b s
-
-    paths-of : (s : ℕ) → s < 64 → isTest body s ≡ true → Paths (own .targets .jump) (own .targets .fall) (own .touched) s (leading s)
-    paths-of s h e =
-        let real = test-real body s e in
-        record {
-          step = λ b low.
-              clean-step body (sound .onward) (block body s .variable) s real (sound .few) b
-              ∙ (λ i. not (sym (touch .at b (inner b low) s ∙ ap (λ a. a && touches body b (block body s .variable)) e) i) && (eqb b s || (leading s (sym (jump-all b) i) || leading s (sym (fall-all b) i))));
-          top = λ b l. clean-top body (sound .onward) (block body s .variable) s real b l;
-        }
-      where
-        inner : (b : ℕ) → b ≤ s → b < 64
-        inner b low = omega arith
-
-    -- ---- the firsts of the edges by one way
-    module _ (way : ℕ) (on : (s : ℕ) → condition body (s, way) .variable ≡ block body s .variable) where
-      denied-bit : (denied : List ℕ) → Told 0 (Bits (λ b k. denies body b (k, way))) 64 64 denied → (j s : ℕ) → bit (getD denied j 0) s ≡ denies body j (s, way)
-      denied-bit denied told j s = go (below-or-not j 64)
-        where
-          go : (j < 64) ⊎ (64 ≤ j) → bit (getD denied j 0) s ≡ denies body j (s, way)
-          go (inl h) = told .at j h s
-          go (inr h) = ap (λ x. bit x s) (beyond denied j 0 (omega (arith, told .size))) ∙ bit-none s ∙ sym (denies-none body j (s, way) (none-past j h))
-
-      -- where s is a test by the paths to it; else nothing
-      by-test : (s x : ℕ) (P : ℕ → ℕ → Type 0) (f : ℕ → Bool) → OnTest (own .tests) P s x → (isTest body s ≡ true → P s x → (j : ℕ) → bit x j ≡ f j) → (isTest body s ≡ false → (j : ℕ) → f j ≡ false) → (j : ℕ) → bit x j ≡ f j
-      by-test s x P f p here else = split (isTest body s) (λ e. here e (p .on (tests-bit s ∙ e))) (λ e j. p .off (tests-bit s ∙ e) j ∙ sym (else e j))
-
-      assigned-row : (denied l : List ℕ) → Told 0 (Bits (λ b k. denies body b (k, way))) 64 64 denied → Told 0 (OnTest (own .tests) (AssignedAt (own .targets .jump) (own .targets .fall) (own .touched) denied)) 64 64 l → Told 0 (λ s x. (j : ℕ) → bit x j ≡ assigned body j (s, way)) 64 64 l
-      unfolding assigned
-      assigned-row denied l deny told = told-as 0 _ 64 _ l told (λ s x h p. by-test s x (AssignedAt (own .targets .jump) (own .targets .fall) (own .touched) denied) (λ j. assigned body j (s, way)) p
-          (λ e q j.
-          q (leading s) (paths-of s h e) j
-          ∙ ap (λ a. a && ((leading s (getD (own .targets .jump) j 64) || leading s (getD (own .targets .fall) j 64)) || eqb j s)) (denied-bit denied deny j s)
-          ∙ ap (λ a. denies body j (s, way) && a)
-          ((λ i. (leading s (jump-all j i) || leading s (fall-all j i)) || eqb j s)
-          ∙ ap (λ a. a || eqb j s) (sym (some-way body (sound .onward) (block body s .variable) s (test-real body s e) (sound .few) j))
-          ∙ or-comm (anyOf (λ o. leading s (o .1)) (exits body j)) (eqb j s)
-          ∙ (λ i. eqb j s || anyOf (λ o. clean body (sym (on s) i) (body .count) (o .1) s) (exits body j))))
-          (λ e j. let d = denies-test body j (s, way) e in rw d))
-
-      jump-row : (opposed l : List ℕ) → Told 0 (Bits (λ s j. opposes body (s, way) (j, 1))) 64 64 opposed → Told 0 (OnTest (own .tests) (LedAt (own .targets .jump) (own .targets .fall) (own .touched) opposed (own .targets .jump))) 64 64 l → Told 0 (λ s x. (j : ℕ) → bit x j ≡ byJump body j (s, way)) 64 64 l
-      unfolding byJump
-      jump-row opposed l opp told = told-as 0 _ 64 _ l told (λ s x h p. by-test s x (LedAt (own .targets .jump) (own .targets .fall) (own .touched) opposed (own .targets .jump)) (λ j. byJump body j (s, way)) p
-          (λ e q j.
-          q (leading s) (paths-of s h e) j
-          ∙ ap (λ a. a && leading s (getD (own .targets .jump) j 64)) (opp .at s h j ∙ opposes-swap body (s, way) (j, 1))
-          ∙ ap (λ a. opposes body (j, 1) (s, way) && a) (λ i. clean body (sym (on s) i) (body .count) (jump-all j i) s))
-          (λ e j. let d = opposes-test body (j, 1) (s, way) e in rw d))
-
-      fall-row : (opposed l : List ℕ) → Told 0 (Bits (λ s j. opposes body (s, way) (j, 2))) 64 64 opposed → Told 0 (OnTest (own .tests) (LedAt (own .targets .jump) (own .targets .fall) (own .touched) opposed (own .targets .fall))) 64 64 l → Told 0 (λ s x. (j : ℕ) → bit x j ≡ byFall body j (s, way)) 64 64 l
-      unfolding byFall
-      fall-row opposed l opp told = told-as 0 _ 64 _ l told (λ s x h p. by-test s x (LedAt (own .targets .jump) (own .targets .fall) (own .touched) opposed (own .targets .fall)) (λ j. byFall body j (s, way)) p
-          (λ e q j.
-          q (leading s) (paths-of s h e) j
-          ∙ ap (λ a. a && leading s (getD (own .targets .fall) j 64)) (opp .at s h j ∙ opposes-swap body (s, way) (j, 2))
-          ∙ ap (λ a. opposes body (j, 2) (s, way) && a) (λ i. clean body (sym (on s) i) (body .count) (fall-all j i) s))
-          (λ e j. let d = opposes-test body (j, 2) (s, way) e in rw d))
-
-      firsts-by : (denied jumping falling : List ℕ) (p : Firsts) → Told 0 (Bits (λ b k. denies body b (k, way))) 64 64 denied
-          → Told 0 (Bits (λ s j. opposes body (s, way) (j, 1))) 64 64 jumping → Told 0 (Bits (λ s j. opposes body (s, way) (j, 2))) 64 64 falling
-          → FirstsOf (own .tests) (own .targets .jump) (own .targets .fall) (own .touched) denied jumping falling p → FirstsBy body way p
-      firsts-by denied jumping falling p d a b f = record {
-        assigned = assigned-row denied (p .assigned) d (f .assigned);
-        jumps = jump-row jumping (p .jump) a (f .jumps);
-        falls = fall-row falling (p .fall) b (f .falls);
+  paths-of : (s : ℕ) → s < 64 → isTest body s ≡ true → Paths (targets 1) (targets 2) (rows touching) s (leading s)
+  paths-of s h e =
+      let real = test-real body s e in
+      record {
+        step = λ b low.
+            clean-step body (sound .onward) (block body s .variable) s real few b
+            ∙ (λ i. not (sym (touched b (inner b low)) i) && (eqb b s || (leading s (sym (target-all 1 b) i) || leading s (sym (target-all 2 b) i))));
+        top = λ b l. clean-top body (sound .onward) (block body s .variable) s real b l;
       }
+    where
+      inner : (b : ℕ) → b ≤ s → b < 64
+      inner b low = omega arith
 
-  -- ---- the edges with a first below a block
-  module _ (way : ℕ) (p : Firsts) (firsts : FirstsBy body way p)
-      (listed-is : (b s : ℕ) → b ≤ 64 → s < 64 → any b (λ f. paired body f (s, way)) ≡ listed (conflicts body) b (s, way))
-      (all m : List ℕ) (each : Told 0 (EitherAt (p .assigned) (p .jump) (p .fall)) 64 64 all) (told : Told 0 (ListedAt all) 64 64 m) where
-    first-bit : (s : ℕ) → s < 64 → (f : ℕ) → bit (getD all s 0) f ≡ paired body f (s, way)
-    unfolding paired
-    first-bit s h f = each .at s h f ∙ (λ i. firsts .assigned .at s h f i || (firsts .jumps .at s h f i || firsts .falls .at s h f i))
+      touched : (b : ℕ) → b < 64 → bit (getD (rows touching) b 0) s ≡ touches body b (block body s .variable)
+      touched b l = rows-bit touching (λ b k m. rw (off body few k m)) b l s ∙ ap (λ a. a && touches body b (block body s .variable)) e
 
-    listed-off : (b s : ℕ) → 64 ≤ s → listed (conflicts body) b (s, way) ≡ false
-    listed-off b s h = listed-none body (sound .few) b (s, way) (off s h)
+  -- ---- the firsts of the edges by one way
+  module _ (way : ℕ) where
+    on : (s : ℕ) → condition body (s, way) .variable ≡ block body s .variable
+    unfolding condition
+    on s = refl
 
-    pub listed-row : Told 0 (Bits (λ b k. listed (conflicts body) b (k, way))) 64 64 m
-    listed-row = told-as 0 _ 64 _ m told (λ b x h q k. q k ∙ go b h k (below-or-not k 64))
+    -- where s is a test by the paths to it; else nothing
+    by-test : (s x : ℕ) (P : ℕ → ℕ → Type 0) (f : ℕ → Bool) → OnTest (setOf 64 (isTest body)) P s x
+        → (isTest body s ≡ true → P s x → (j : ℕ) → bit x j ≡ f j) → (isTest body s ≡ false → (j : ℕ) → f j ≡ false) → (j : ℕ) → bit x j ≡ f j
+    by-test s x P f p here else = split (isTest body s) (λ e. here e (p .on (tests-bit ∙ e))) (λ e j. p .off (tests-bit ∙ e) j ∙ sym (else e j))
       where
-        go : (b : ℕ) → b < 64 → (k : ℕ) → (k < 64) ⊎ (64 ≤ k) → any b (λ f. bit (getD all k 0) f) ≡ listed (conflicts body) b (k, way)
-        go b h k (inl g) = any-same b _ _ (first-bit k g) ∙ listed-is b k (omega arith) g
-        go b h k (inr g) = any-same b _ (λ f. false) (λ f. ap (λ x. bit x f) (beyond all k 0 (omega (arith, each .size))) ∙ bit-none f) ∙ any-none b ∙ sym (listed-off b k g)
+        tests-bit : bit (setOf 64 (isTest body)) s ≡ isTest body s
+        tests-bit = set-bits (isTest body) (off body few) s
+
+    assigned-row : (l : List ℕ) → Told 0 (OnTest (setOf 64 (isTest body)) (AssignedAt (targets 1) (targets 2) (rows touching) (rows (denying way)))) 64 64 l
+        → Told 0 (Bits (λ s j. assigned body j (s, way))) 64 64 l
+    unfolding assigned
+    assigned-row l told = told-as 0 _ 64 _ l told (λ s x h p. by-test s x (AssignedAt (targets 1) (targets 2) (rows touching) (rows (denying way))) (λ j. assigned body j (s, way)) p
+        (λ e q j.
+        q (leading s) (paths-of s h e) j
+        ∙ ap (λ a. a && ((leading s (getD (targets 1) j 64) || leading s (getD (targets 2) j 64)) || eqb j s)) (denied-bit way j s)
+        ∙ ap (λ a. denies body j (s, way) && a)
+        ((λ i. (leading s (target-all 1 j i) || leading s (target-all 2 j i)) || eqb j s)
+        ∙ ap (λ a. a || eqb j s) (sym (some-way body (sound .onward) (block body s .variable) s (test-real body s e) few j))
+        ∙ or-comm (anyOf (λ o. leading s (o .1)) (exits body j)) (eqb j s)
+        ∙ (λ i. eqb j s || anyOf (λ o. clean body (sym (on s) i) (body .count) (o .1) s) (exits body j))))
+        (λ e j. let d = denies-test body j (s, way) e in rw d))
+
+    -- by the firsts' edges, each way of theirs
+    led-row : (to : ℕ) (l : List ℕ) → Told 0 (OnTest (setOf 64 (isTest body)) (LedAt (targets 1) (targets 2) (rows touching) (rows (opposing way to)) (targets to))) 64 64 l
+        → Told 0 (Bits (λ s j. byWay body to j (s, way))) 64 64 l
+    unfolding byWay crossed
+    led-row to l told = told-as 0 _ 64 _ l told (λ s x h p. by-test s x (LedAt (targets 1) (targets 2) (rows touching) (rows (opposing way to)) (targets to)) (λ j. byWay body to j (s, way)) p
+        (λ e q j.
+        q (leading s) (paths-of s h e) j
+        ∙ ap (λ a. a && leading s (getD (targets to) j 64)) (opposed-bit way to s j h ∙ opposes-swap body (s, way) (j, to))
+        ∙ ap (λ a. opposes body (j, to) (s, way) && a) (λ i. clean body (sym (on s) i) (body .count) (target-all to j i) s))
+        (λ e j. let d = opposes-test body (j, to) (s, way) e in rw d))
+
+    firsts-by : (p : Firsts) → FirstsOf (setOf 64 (isTest body)) (targets 1) (targets 2) (rows touching) (rows (denying way)) (rows (opposing way 1)) (rows (opposing way 2)) p → FirstsBy body way p
+    firsts-by p f = record { assigned = assigned-row (p .assigned) (f .assigned); jumps = led-row 1 (p .jump) (f .jumps); falls = led-row 2 (p .fall) (f .falls) }
+
+    -- ---- the edges with a first below a block
+    module _ (p : Firsts) (firsts : FirstsBy body way p) (is-way : Way way)
+        (all m : List ℕ) (each : Told 0 (EitherAt (p .assigned) (p .jump) (p .fall)) 64 64 all) (told : Told 0 (ListedAt all) 64 64 m) where
+      first-bit : (s : ℕ) → s < 64 → (f : ℕ) → bit (getD all s 0) f ≡ paired body f (s, way)
+      unfolding paired
+      first-bit s h f = each .at s h f ∙ (λ i. firsts .assigned .at s h f i || (firsts .jumps .at s h f i || firsts .falls .at s h f i))
+
+      listed-off : (b s : ℕ) → 64 ≤ s → listed (conflicts body) b (s, way) ≡ false
+      listed-off b s h = listed-none body few b (s, way) (off body few s h)
+
+      listed-row : Told 0 (Bits (λ b k. listed (conflicts body) b (k, way))) 64 64 m
+      listed-row = told-as 0 _ 64 _ m told (λ b x h q k. q k ∙ go b h k (below-or-not k 64))
+        where
+          go : (b : ℕ) → b < 64 → (k : ℕ) → (k < 64) ⊎ (64 ≤ k) → any b (λ f. bit (getD all k 0) f) ≡ listed (conflicts body) b (k, way)
+          go b h k (inl g) = any-same b _ _ (first-bit k g) ∙ listed-way body few b k way is-way (omega arith) g
+          go b h k (inr g) = any-same b _ (λ f. false) (λ f. ap (λ x. bit x f) (beyond all k 0 (omega (arith, each .size))) ∙ bit-none f) ∙ any-none b ∙ sym (listed-off b k g)
+
+      listed-is : m ≡ rows (λ b k. listed (conflicts body) b (k, way))
+      listed-is = told-rows (λ b k. listed (conflicts body) b (k, way)) (λ b k h. listed-off b k h) m listed-row
 
   -- ---- all of it
-  same-variable : (way s : ℕ) → condition body (s, way) .variable ≡ block body s .variable
-  unfolding condition
-  same-variable way s = refl
+  abbrev foundWith : Local → (jumped fallen : Firsts) → Edges → Found
+  foundWith own jumped fallen x = record {
+    sets = record { targets = own .targets; touched = own .touched; denied = own .denied; jumping = own .jumping; falling = own .falling; listed = x };
+    variable = own .variable;
+    jumped = jumped;
+    fallen = fallen;
+  }
 
-  listed-of-jump : (b s : ℕ) → b ≤ 64 → s < 64 → any b (λ f. paired body f (s, 1)) ≡ listed (conflicts body) b (s, 1)
-  listed-of-jump = listed-jump body (sound .few)
+  -- the firsts of the edges by jump, and by fall, from the words
+  abbrev Jumped : Local → Firsts → Type 0
+  Jumped own p = FirstsOf (own .tests) (own .targets .jump) (own .targets .fall) (own .touched) (own .denied .jump) (own .jumping .jump) (own .jumping .fall) p
 
-  listed-of-fall : (b s : ℕ) → b ≤ 64 → s < 64 → any b (λ f. paired body f (s, 2)) ≡ listed (conflicts body) b (s, 2)
-  listed-of-fall = listed-fall body (sound .few)
+  abbrev Fallen : Local → Firsts → Type 0
+  Fallen own p = FirstsOf (own .tests) (own .targets .jump) (own .targets .fall) (own .touched) (own .denied .fall) (own .falling .jump) (own .falling .fall) p
 
-  module _ (own : Local) (is : own ≡ localOf body) where
-    pub sized : (denied : List ℕ) (opposed : Edges) → length denied ≡ 64 → length (opposed .jump) ≡ 64 → length (opposed .fall) ≡ 64
-        → ((length (own .targets .jump) ≡ 64) × ((length (own .targets .fall) ≡ 64) × (length (own .touched) ≡ 64))) × (((length denied ≡ 64) × ((length (opposed .jump) ≡ 64) × (length (opposed .fall) ≡ 64))) × (Above (own .targets .jump) × Above (own .targets .fall)))
-    sized denied opposed d j f =
-        ((jumps own is .size, (falls own is .size, touch own is .size)), ((d, (j, f)), (jump-above own is (sound .onward), fall-above own is (sound .onward))))
+  module _ (jumped fallen : Firsts) (x : Edges) (lists : ListedOf jumped fallen x) where
+    found-own : Jumped (localOf body) jumped → Fallen (localOf body) fallen → foundWith (localOf body) jumped fallen x ≡ foundOf body
+    unfolding localOf setsOf foundOf
+    found-own one two =
+        let by-one = firsts-by 1 jumped one in
+        let by-two = firsts-by 2 fallen two in
+        λ i.
+        record {
+          sets = record {
+            targets = localOf body .targets;
+            touched = localOf body .touched;
+            denied = localOf body .denied;
+            jumping = localOf body .jumping;
+            falling = localOf body .falling;
+            listed = record {
+              jump = listed-is 1 jumped by-one (inl refl) (lists .by-jump) (x .jump) (lists .all-jump) (lists .jumps) i;
+              fall = listed-is 2 fallen by-two (inr refl) (lists .by-fall) (x .fall) (lists .all-fall) (lists .falls) i;
+            };
+          };
+          variable = localOf body .variable;
+          jumped = firsts-are body few 1 jumped by-one i;
+          fallen = firsts-are body few 2 fallen by-two i;
+        }
 
-    pub sized-jump : ((length (own .targets .jump) ≡ 64) × ((length (own .targets .fall) ≡ 64) × (length (own .touched) ≡ 64))) × (((length (own .denied .jump) ≡ 64) × ((length (own .jumping .jump) ≡ 64) × (length (own .jumping .fall) ≡ 64))) × (Above (own .targets .jump) × Above (own .targets .fall)))
-    sized-jump = sized (own .denied .jump) (own .jumping) (deny-jump own is .size) (jump-jump own is .size) (jump-fall own is .size)
-
-    pub sized-fall : ((length (own .targets .jump) ≡ 64) × ((length (own .targets .fall) ≡ 64) × (length (own .touched) ≡ 64))) × (((length (own .denied .fall) ≡ 64) × ((length (own .falling .jump) ≡ 64) × (length (own .falling .fall) ≡ 64))) × (Above (own .targets .jump) × Above (own .targets .fall)))
-    sized-fall = sized (own .denied .fall) (own .falling) (deny-fall own is .size) (fall-jump own is .size) (fall-fall own is .size)
-
-    module _ (jumped fallen : Firsts) (one : FirstsOf (own .tests) (own .targets .jump) (own .targets .fall) (own .touched) (own .denied .jump) (own .jumping .jump) (own .jumping .fall) jumped)
-        (two : FirstsOf (own .tests) (own .targets .jump) (own .targets .fall) (own .touched) (own .denied .fall) (own .falling .jump) (own .falling .fall) fallen) (x : Edges) (lists : ListedOf jumped fallen x) where
-      by-one : FirstsBy body 1 jumped
-      by-one = firsts-by own is 1 (same-variable 1) (own .denied .jump) (own .jumping .jump) (own .jumping .fall) jumped (deny-jump own is) (jump-jump own is) (jump-fall own is) one
-
-      by-two : FirstsBy body 2 fallen
-      by-two = firsts-by own is 2 (same-variable 2) (own .denied .fall) (own .falling .jump) (own .falling .fall) fallen (deny-fall own is) (fall-jump own is) (fall-fall own is) two
-
-      listed-one : Told 0 (Bits (λ b k. listed (conflicts body) b (k, 1))) 64 64 (x .jump)
-      listed-one = listed-row 1 jumped by-one listed-of-jump (lists .by-jump) (x .jump) (lists .all-jump) (lists .jumps)
-
-      listed-two : Told 0 (Bits (λ b k. listed (conflicts body) b (k, 2))) 64 64 (x .fall)
-      listed-two = listed-row 2 fallen by-two listed-of-fall (lists .by-fall) (x .fall) (lists .all-fall) (lists .falls)
-
-      listed-past : (b k way : ℕ) → 64 ≤ k → listed (conflicts body) b (k, way) ≡ false
-      listed-past b k way h = listed-none body (sound .few) b (k, way) (off k h)
-
-      sets-are : record { targets = own .targets; touched = own .touched; denied = own .denied; jumping = own .jumping; falling = own .falling; listed = x } ≡ setsOf body
-      unfolding setsOf
-      sets-are = λ i. record {
-        targets = is i .targets;
-        touched = is i .touched;
-        denied = is i .denied;
-        jumping = is i .jumping;
-        falling = is i .falling;
-        listed = record {
-          jump = told-rows (λ b k. listed (conflicts body) b (k, 1)) (λ b k h. listed-past b k 1 h) (x .jump) listed-one i;
-          fall = told-rows (λ b k. listed (conflicts body) b (k, 2)) (λ b k h. listed-past b k 2 h) (x .fall) listed-two i;
-        };
-      }
-
-      pub found-is : FoundOf body (record {
-        sets = record { targets = own .targets; touched = own .touched; denied = own .denied; jumping = own .jumping; falling = own .falling; listed = x };
-        variable = own .variable;
-        jumped = jumped;
-        fallen = fallen;
-      })
-      found-is = record { sets = sets-are; variables = variables own is; jumped = by-one; fallen = by-two }
+    pub found-is : (own : Local) → own ≡ localOf body → Jumped own jumped → Fallen own fallen → foundWith own jumped fallen x ≡ foundOf body
+    found-is own is = subst (λ (w : Local). Jumped w jumped → Fallen w fallen → foundWith w jumped fallen x ≡ foundOf body) (sym is) found-own

@@ -1,5 +1,4 @@
--- The definitions that the contracts of the conflicts cite, and what they leave.
-pub mod Sets
+-- What the contracts of the functions below `find` say, and what the proofs share. What is found is sets' Found.
 pub mod Parts
 pub mod Sorting
 pub mod Reaching

@@ -1,4 +1,5 @@
--- What the private functions' contracts say of the words and lists that they pass on. Rests on form's Conflict and on words.Filled.
+-- What the private functions' contracts say of the words and lists that they pass on. Rests on sets' Local, on words.Filled and on
+-- lower_laws' Joined.
 use mathlib.Core.Path.{_≡_}
 use mathlib.Core.Bool.{Bool, true, false, not, _&&_, _||_}
 use mathlib.Core.List.{List}
@@ -9,12 +10,12 @@ use Rattle.laws.specs.Terms.{bit, any}
 use Rattle.words.specs.Filled.{Told}
 use Rattle.form.specs.declared.Body.{Body}
 use Rattle.form.specs.Conflict.{block, assigned}
-use Rattle.lower_laws.specs.Joined.{byJump, byFall}
+use Rattle.lower_laws.specs.Joined.{byWay}
+use Rattle.sets.specs.declared.Firsts.{Firsts}
+use Rattle.sets.specs.declared.Edges.{Edges}
+use Rattle.sets.specs.declared.Found.{Found}
+use Rattle.sets.specs.Local.{Above}
 use Rattle.path_sets.specs.declared.Reach.{Reach}
-use Rattle.path_sets.specs.declared.Firsts.{Firsts}
-use Rattle.local_sets.specs.declared.Edges.{Edges}
-use Rattle.path_sets.specs.declared.Found.{Found}
-use Rattle.path_sets.specs.Sets.{setsOf}
 
 -- what is in one of three
 abbrev pub EitherAt : (a j f : List ℕ) → ℕ → ℕ → Type 0
@@ -29,9 +30,13 @@ pub record LowestFirsts (firsts l : List ℕ) : Type 0 where
   pub size : length l ≡ 64
   pub at : (b : ℕ) → b < 64 → (j : ℕ) → any (b + 1) (λ f. bit (getD firsts j 0) f) ≡ (any b (λ f. bit (getD firsts j 0) f) || bit (getD l b 0) j)
 
--- each target is above its block
-abbrev pub Above : List ℕ → Type 0
-Above targets = (b : ℕ) → b < 64 → b < getD targets b 64
+-- lists with a place for each block, and ways that lead upward
+pub record Ways (jump fall touched : List ℕ) : Type 0 where
+  pub jumps : length jump ≡ 64
+  pub falls : length fall ≡ 64
+  pub touches : length touched ≡ 64
+  pub jumps-above : Above jump
+  pub falls-above : Above fall
 
 -- P holds for the blocks from which a path leads to s through blocks that do not touch test s
 pub record Paths (jump fall touched : List ℕ) (s : ℕ) (P : ℕ → Bool) : Type 0 where
@@ -77,15 +82,18 @@ pub record ListedOf (jumped fallen : Firsts) (r : Edges) : Type 0 where
   pub jumps : Told 0 (ListedAt by-jump) 64 64 (r .jump)
   pub falls : Told 0 (ListedAt by-fall) 64 64 (r .fall)
 
--- the firsts of a body's edges by one way
-pub record FirstsBy (body : Body) (way : ℕ) (p : Firsts) : Type 0 where
-  pub assigned : Told 0 (λ s x. (j : ℕ) → bit x j ≡ assigned body j (s, way)) 64 64 (p .assigned)
-  pub jumps : Told 0 (λ s x. (j : ℕ) → bit x j ≡ byJump body j (s, way)) 64 64 (p .jump)
-  pub falls : Told 0 (λ s x. (j : ℕ) → bit x j ≡ byFall body j (s, way)) 64 64 (p .fall)
+-- bits of a row b that has a word for each block
+abbrev pub Bits : (ℕ → ℕ → Bool) → ℕ → ℕ → Type 0
+Bits f b x = (k : ℕ) → bit x k ≡ f b k
 
--- all that is found of a body: the sets, each block's variable, and the firsts of its edges by jump and by fall
-pub record FoundOf (body : Body) (r : Found) : Type 0 where
-  pub sets : r .sets ≡ setsOf body
-  pub variables : Told 0 (λ k x. x ≡ block body k .variable) 64 64 (r .variable)
-  pub jumped : FirstsBy body 1 (r .jumped)
-  pub fallen : FirstsBy body 2 (r .fallen)
+-- the firsts of a body's edges by one way, bit by bit
+pub record FirstsBy (body : Body) (way : ℕ) (p : Firsts) : Type 0 where
+  pub assigned : Told 0 (Bits (λ s j. assigned body j (s, way))) 64 64 (p .assigned)
+  pub jumps : Told 0 (Bits (λ s j. byWay body 1 j (s, way))) 64 64 (p .jump)
+  pub falls : Told 0 (Bits (λ s j. byWay body 2 j (s, way))) 64 64 (p .fall)
+
+-- what is found of a body for its conflict list
+pub record FoundBy (body : Body) (f : Found) : Type 0 where
+  pub variables : Told 0 (λ k x. x ≡ block body k .variable) 64 64 (f .variable)
+  pub jumped : FirstsBy body 1 (f .jumped)
+  pub fallen : FirstsBy body 2 (f .fallen)

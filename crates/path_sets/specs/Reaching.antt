@@ -12,7 +12,8 @@ use Rattle.laws.specs.Terms.{bit}
 use Rattle.laws.specs.Sets.{below-or-not}
 use Rattle.words.specs.Filled.{Downto, downto-none, downto-more, downto-end}
 use Rattle.lower_laws.specs.Blocks.{within, beyond}
-use Rattle.path_sets.specs.Parts.{Above, Paths, ReachOf}
+use Rattle.sets.specs.Local.{Above}
+use Rattle.path_sets.specs.Parts.{Ways, Paths, ReachOf}
 
 -- past s every target is
 past : (targets : List ℕ) → length targets ≡ 64 → Above targets → (s j : ℕ) → s < 64 → s < j → s < getD targets j 64
@@ -40,18 +41,24 @@ module _ (jump fall touched denied : List ℕ) (s : ℕ) where
     assigned = λ P w. downto-end (assigns P) assigned (r .assigned-at P w);
   }
 
-  module _ (sj : length jump ≡ 64) (sf : length fall ≡ 64) (inside : s < 64) (aj : Above jump) (af : Above fall) where
+  module _ (ways : Ways jump fall touched) (inside : s < 64) where
+    led-past : (j : ℕ) → s < j → s < getD jump j 64
+    led-past j l = past jump (ways .jumps) (ways .jumps-above) s j inside l
+
+    fallen-past : (j : ℕ) → s < j → s < getD fall j 64
+    fallen-past j l = past fall (ways .falls) (ways .falls-above) s j inside l
+
     pub reaching-none : Reaching (s + 1) 0 0 0 0
     reaching-none = record {
       clean-at = λ P w. downto-none P (s + 1) (λ j l. w .top j (omega arith));
-      jump-at = λ P w. downto-none (λ j. P (getD jump j 64)) (s + 1) (λ j l. w .top (getD jump j 64) (past jump sj aj s j inside (omega arith)));
-      fall-at = λ P w. downto-none (λ j. P (getD fall j 64)) (s + 1) (λ j l. w .top (getD fall j 64) (past fall sf af s j inside (omega arith)));
+      jump-at = λ P w. downto-none (λ j. P (getD jump j 64)) (s + 1) (λ j l. w .top (getD jump j 64) (led-past j (omega arith)));
+      fall-at = λ P w. downto-none (λ j. P (getD fall j 64)) (s + 1) (λ j l. w .top (getD fall j 64) (fallen-past j (omega arith)));
       assigned-at = λ P w. downto-none (assigns P) (s + 1) (λ j l. none P w j (omega arith));
     }
       where
         none : (P : ℕ → Bool) → Paths jump fall touched s P → (j : ℕ) → s < j → assigns P j ≡ false
         none P w j l =
-            rw (w .top (getD jump j 64) (past jump sj aj s j inside l), w .top (getD fall j 64) (past fall sf af s j inside l), ne-eqb j s (apart j l)) (and-false (bit (getD denied j 0) s))
+            rw (w .top (getD jump j 64) (led-past j l), w .top (getD fall j 64) (fallen-past j l), ne-eqb j s (apart j l)) (and-false (bit (getD denied j 0) s))
           where
             apart : (j : ℕ) → s < j → j ≡ s → ⊥
             apart j l e = omega arith
@@ -70,9 +77,9 @@ module _ (jump fall touched denied : List ℕ) (s : ℕ) where
       pub reaching-more : Reaching b clean′ by-jump′ by-fall′ assigned′
       reaching-more = record {
         clean-at = λ P w. downto-more P b clean clean′ (not t && (eqb b s || (j || f))) (r .clean-at P w)
-            ((λ i. not (et i) && (eqb b s || ((ej ∙ by jump sj aj P w) i || (ef ∙ by fall sf af P w) i))) ∙ sym (w .step b low)) new-clean;
-        jump-at = λ P w. downto-more (λ k. P (getD jump k 64)) b by-jump by-jump′ j (r .jump-at P w) (ej ∙ by jump sj aj P w) new-jump;
-        fall-at = λ P w. downto-more (λ k. P (getD fall k 64)) b by-fall by-fall′ f (r .fall-at P w) (ef ∙ by fall sf af P w) new-fall;
+            ((λ i. not (et i) && (eqb b s || ((ej ∙ by jump (ways .jumps) (ways .jumps-above) P w) i || (ef ∙ by fall (ways .falls) (ways .falls-above) P w) i))) ∙ sym (w .step b low)) new-clean;
+        jump-at = λ P w. downto-more (λ k. P (getD jump k 64)) b by-jump by-jump′ j (r .jump-at P w) (ej ∙ by jump (ways .jumps) (ways .jumps-above) P w) new-jump;
+        fall-at = λ P w. downto-more (λ k. P (getD fall k 64)) b by-fall by-fall′ f (r .fall-at P w) (ef ∙ by fall (ways .falls) (ways .falls-above) P w) new-fall;
         assigned-at = λ P w. downto-more (assigns P) b assigned assigned′ (d && ((j || f) || eqb b s)) (r .assigned-at P w)
-            (λ i. ed i && (((ej ∙ by jump sj aj P w) i || (ef ∙ by fall sf af P w) i) || eqb b s)) new-assigned;
+            (λ i. ed i && (((ej ∙ by jump (ways .jumps) (ways .jumps-above) P w) i || (ef ∙ by fall (ways .falls) (ways .falls-above) P w) i) || eqb b s)) new-assigned;
       }

@@ -1,24 +1,13 @@
-// The conflicts of a body: the sets of edges that the walks need, and for each edge the firsts that the conflict list pairs with it. The meaning is in specs/ and in
-// form's Conflict.
+// What paths join of a body: from what its blocks say by themselves (sets' Local) the sets of edges that the walks need, and for each edge the firsts that the conflict
+// list pairs with it. The meaning is in sets' Found and in form's Conflict.
 ghost use mathlib.Core.Path.{_≡_};
 ghost use mathlib.Core.Bool.{true, false};
 ghost use Prim.Native.Nat.{_<_};
 ghost use lib.ListN.{length};
-ghost use Rattle.form.specs.Conflict.{Sound};
 ghost use Rattle.words.specs.Filled.{Told};
-ghost use Rattle.path_sets.specs.Sets.{setsOf};
-ghost use Rattle.path_sets.specs.Parts.{EitherAt, ListedAt, LowestFirsts, Above, noReach, ReachOf, FirstsOf, ListedOf, FoundOf};
-
-// What the walks need of a body: where each block's ways lead; the tests that it touches; the edges that its effects deny; the edges that its edge by
-// jump, and that by fall, conflicts with; and those that the conflict list pairs with a first below it.
-pub struct Sets {
-    pub targets: local_sets::Targets,
-    pub touched: [u64; 64],
-    pub denied: local_sets::Edges,
-    pub jumping: local_sets::Edges,
-    pub falling: local_sets::Edges,
-    pub listed: local_sets::Edges,
-}
+ghost use Rattle.sets.specs.Local.{EdgesSized, Worded};
+ghost use Rattle.sets.specs.Found.{SetsFrom, FoundFrom};
+ghost use Rattle.path_sets.specs.Parts.{EitherAt, ListedAt, LowestFirsts, Ways, noReach, ReachOf, FirstsOf, ListedOf};
 
 // The blocks from which a jump, and those from which a fall, leads to a clean path to a test; and those whose effects deny the test's edge by one way and
 // from which such a path leads, or which are its own.
@@ -28,16 +17,9 @@ struct Reach {
     assigned: u64,
 }
 
-// For each block's edge by one way, the blocks that the conflict list pairs with it as firsts: by assignment, by their jump edge and by their fall edge.
-pub struct Firsts {
-    pub assigned: [u64; 64],
-    pub jump: [u64; 64],
-    pub fall: [u64; 64],
-}
-
 // From which blocks a jump or a fall leads to s by a path that does not touch test s, and which assign against its edge: the blocks from s down.
 fn reach_of(jump: &[usize], fall: &[usize], touched: &[u64], denied: &[u64], s: usize) -> Reach
-    requires { ⌜ ((length (now jump) ≡ 64) × ((length (now fall) ≡ 64) × ((length (now touched) ≡ 64) × (length (now denied) ≡ 64)))) × ((s < 64) × (Above (now jump) × Above (now fall))) ⌝ }
+    requires { ⌜ Ways (now jump) (now fall) (now touched) × ((length (now denied) ≡ 64) × (s < 64)) ⌝ }
     ensures { λ r. ⌜ ReachOf (now (jump .entry)) (now (fall .entry)) (now (touched .entry)) (now (denied .entry)) s r ⌝ }
 {
     let mut clean = 0;
@@ -72,7 +54,7 @@ fn reach_if(
     denied: &[u64],
     s: usize,
 ) -> Reach
-    requires { ⌜ ((length (now jump) ≡ 64) × ((length (now fall) ≡ 64) × ((length (now touched) ≡ 64) × (length (now denied) ≡ 64)))) × ((s < 64) × (Above (now jump) × Above (now fall))) ⌝ }
+    requires { ⌜ Ways (now jump) (now fall) (now touched) × ((length (now denied) ≡ 64) × (s < 64)) ⌝ }
     ensures { λ r. ⌜ (test ≡ true → ReachOf (now (jump .entry)) (now (fall .entry)) (now (touched .entry)) (now (denied .entry)) s r) × (test ≡ false → r ≡ noReach) ⌝ }
 {
     if test {
@@ -141,8 +123,8 @@ fn firsts_of(
     denied: &[u64],
     jumping: &[u64],
     falling: &[u64],
-) -> Firsts
-    requires { ⌜ ((length (now jump) ≡ 64) × ((length (now fall) ≡ 64) × (length (now touched) ≡ 64))) × (((length (now denied) ≡ 64) × ((length (now jumping) ≡ 64) × (length (now falling) ≡ 64))) × (Above (now jump) × Above (now fall))) ⌝ }
+) -> sets::Firsts
+    requires { ⌜ Ways (now jump) (now fall) (now touched) × ((length (now denied) ≡ 64) × ((length (now jumping) ≡ 64) × (length (now falling) ≡ 64))) ⌝ }
     ensures { λ r. ⌜ FirstsOf tests (now (jump .entry)) (now (fall .entry)) (now (touched .entry)) (now (denied .entry)) (now (jumping .entry)) (now (falling .entry)) r ⌝ }
 {
     let mut assigned = [0; 64];
@@ -156,7 +138,7 @@ fn firsts_of(
         falls[s] = words::both(falling[s], r.fall);
         s += 1;
     }
-    Firsts {
+    sets::Firsts {
         assigned,
         jump: jumps,
         fall: falls,
@@ -165,12 +147,12 @@ fn firsts_of(
 
 fn firsts_by(
     tests: u64,
-    to: local_sets::Targets,
+    to: sets::Targets,
     touched: [u64; 64],
     denied: [u64; 64],
-    opposed: local_sets::Edges,
-) -> Firsts
-    requires { ⌜ ((length (to .jump) ≡ 64) × ((length (to .fall) ≡ 64) × (length touched ≡ 64))) × (((length denied ≡ 64) × ((length (opposed .jump) ≡ 64) × (length (opposed .fall) ≡ 64))) × (Above (to .jump) × Above (to .fall))) ⌝ }
+    opposed: sets::Edges,
+) -> sets::Firsts
+    requires { ⌜ Ways (to .jump) (to .fall) touched × ((length denied ≡ 64) × EdgesSized opposed) ⌝ }
     ensures { λ r. ⌜ FirstsOf tests (to .jump) (to .fall) touched denied (opposed .jump) (opposed .fall) r ⌝ }
 {
     let jump = to.jump;
@@ -180,15 +162,7 @@ fn firsts_by(
     firsts_of(tests, &jump, &fall, &touched, &denied, &jumping, &falling)
 }
 
-// All that is found of a body: the sets, and for the conflict list each block's variable and the firsts of its edges.
-pub struct Found {
-    pub sets: Sets,
-    pub variable: [u8; 64],
-    pub jumped: Firsts,
-    pub fallen: Firsts,
-}
-
-fn listed_of(jumped: Firsts, fallen: Firsts) -> local_sets::Edges
+fn listed_of(jumped: sets::Firsts, fallen: sets::Firsts) -> sets::Edges
     ensures { λ r. ⌜ ListedOf jumped fallen r ⌝ }
 {
     let a = jumped.assigned;
@@ -201,27 +175,26 @@ fn listed_of(jumped: Firsts, fallen: Firsts) -> local_sets::Edges
     let g = fallen.fall;
     let by_fall = all_firsts(&c, &k, &g);
     let fall = listed_rows(&by_fall);
-    local_sets::Edges { jump, fall }
+    sets::Edges { jump, fall }
 }
 
-// All that is found of a body: the crate listing reads the conflict list off it.
-pub fn find(body: form::Body) -> Found
-    requires { ⌜ Sound body ⌝ }
-    ensures { λ r. ⌜ FoundOf body r ⌝ }
+// All that is found of a body, from what its blocks say by themselves: the crate listing reads the conflict list off it.
+pub fn find(local: sets::Local) -> sets::Found
+    requires { ⌜ Worded local ⌝ }
+    ensures { λ r. ⌜ FoundFrom local r ⌝ }
 {
-    let l = local_sets::local_of(body);
-    let tests = l.tests;
-    let targets = l.targets;
-    let touched = l.touched;
-    let denied = l.denied;
-    let jumping = l.jumping;
-    let falling = l.falling;
+    let tests = local.tests;
+    let targets = local.targets;
+    let touched = local.touched;
+    let denied = local.denied;
+    let jumping = local.jumping;
+    let falling = local.falling;
     let deny_jump = denied.jump;
     let deny_fall = denied.fall;
     let jumped = firsts_by(tests, targets, touched, deny_jump, jumping);
     let fallen = firsts_by(tests, targets, touched, deny_fall, falling);
     let listed = listed_of(jumped, fallen);
-    let sets = Sets {
+    let sets = sets::Sets {
         targets,
         touched,
         denied,
@@ -229,8 +202,8 @@ pub fn find(body: form::Body) -> Found
         falling,
         listed,
     };
-    let variable = l.variable;
-    Found {
+    let variable = local.variable;
+    sets::Found {
         sets,
         variable,
         jumped,
@@ -239,10 +212,10 @@ pub fn find(body: form::Body) -> Found
 }
 
 // The sets that the walks need of a body.
-pub fn sets_of(body: form::Body) -> Sets
-    requires { ⌜ Sound body ⌝ }
-    ensures { λ r. ⌜ r ≡ setsOf body ⌝ }
+pub fn sets_of(local: sets::Local) -> sets::Sets
+    requires { ⌜ Worded local ⌝ }
+    ensures { λ r. ⌜ SetsFrom local r ⌝ }
 {
-    let f = find(body);
+    let f = find(local);
     f.sets
 }

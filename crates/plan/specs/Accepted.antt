@@ -25,11 +25,12 @@ use Rattle.counter.specs.Answer.Owed.{no-relation, no-count as without, counted
 use Rattle.counter.specs.Uniqueness.{at-most}
 use Rattle.lower_laws.specs.Loops.{count-once}
 use Rattle.roundtrip.specs.Acceptance.{refused}
-use Rattle.roundtrip.specs.Sound.{well-formed}
+use Rattle.roundtrip.specs.Sound.{sound, well-formed}
+use Rattle.theory.specs.Route.{stepCost}
+use Rattle.theory.specs.Range.{Range, up-same}
 use Rattle.roundtrip.specs.Read.{read-accepted, read-body, read-sound}
-use Rattle.theory.specs.Plan.{Planned}
-use Rattle.theory.specs.Plan.{PlanOf}
-use Rattle.plan.specs.Owed.{Owed}
+use Rattle.theory.specs.Plan.{costLimit}
+use Rattle.plan.specs.Owed.{CountOf, Owed}
 use Rattle.plan.specs.Owed.Owed.{no-form, no-count, counted}
 
 -- ---- the body
@@ -37,37 +38,6 @@ use Rattle.plan.specs.Owed.Owed.{no-form, no-count, counted}
 pub cheap : (s : List ℕ) → judge s ≡ Accepted → (b : ℕ) → block (bodyOf s) b .cost ≤ 1000000
 unfolding block
 cheap s a b = well-formed s a .blocks b .cost
-
--- ---- no refusal has the number 0
-
-abbrev Numbered : Verdict → Type 0
-Numbered v = (number place : ℕ) → v ≡ Refused number place → number ≡ 0 → ⊥
-
-judged-numbered : (fault at : ℕ) (rest : Verdict) → Numbered rest → Numbered (judged fault at rest)
-judged-numbered fault at rest h number place = by (eqb fault 0) refl
-  where
-    by : (c : Bool) → eqb fault 0 ≡ c → when c rest (Refused fault at) ≡ Refused number place → number ≡ 0 → ⊥
-    by true q e z = h number place e z
-    by false q e z = let d = eqb-false fault 0 q in d (cc)
-
-accepted-numbered : Numbered Accepted
-accepted-numbered number place e z = refused (sym e)
-
-ends-numbered : (s : List ℕ) (n : ℕ) (l : List ℕ) (k : ℕ) → Numbered (judgeEnds s n l k)
-unfolding judgeEnds
-ends-numbered s n [] k = accepted-numbered
-ends-numbered s n (at ∷ rest) k = judged-numbered (endFault s at n k) at (judgeEnds s n rest (k + oneIf (isBlock s at))) (ends-numbered s n rest (k + oneIf (isBlock s at)))
-
-records-numbered : (s l : List ℕ) (b e : ℕ) → Numbered (judgeRecords s l b e)
-unfolding judgeRecords
-records-numbered s [] b e =
-    judged-numbered (when (eqb (length s) 0 || eqb b 0) 17 0) (length s) (judgeEnds s b (recordsFrom s 0) 0) (ends-numbered s b (recordsFrom s 0) 0)
-records-numbered s (at ∷ rest) b e =
-    judged-numbered (recordFault s at b e) at (judgeRecords s rest (b + oneIf (isBlock s at)) (e + oneIf (isEffect s at))) (records-numbered s rest (b + oneIf (isBlock s at)) (e + oneIf (isEffect s at)))
-
-pub judge-numbered : (s : List ℕ) → Numbered (judge s)
-unfolding judge
-judge-numbered s = records-numbered s (recordsFrom s 0) 0 0
 
 -- ---- one outcome
 
@@ -89,48 +59,31 @@ module _ {A : Type 0} (s : List ℕ) (refused-by : ℕ → ℕ → A) (with : �
 abbrev pub CounterOwed : Counter → Counted → Type 0
 CounterOwed counter answer = Counter·Owed (counter .initial) (counter .step) (counter .relation) (counter .limit) (said answer)
 
--- 0 where there is none
-abbrev pub iterationsOf : Counted → ℕ
-iterationsOf answer = said answer .iterations
-
-module _ {A : Type 0} (s : List ℕ) (refused-by : ℕ → ℕ → A) (with : ℕ → A) (a : judge s ≡ Accepted) where
+module _ (s : List ℕ) (a : judge s ≡ Accepted) where
   known : 5 < bodyOf s .counter .relation → ⊥
   known h = omega (arith, well-formed s a .relation)
 
-  pub owed-refused : (number place : ℕ) → CounterOwed (bodyOf s .counter) (NoCount number place) → Owed s refused-by with (refused-by number place)
-  owed-refused number place (no-relation h e) = absurd (known h)
-  owed-refused number place (without l never e) = no-count a never (λ i. refused-by (e i .number) (e i .place))
-  owed-refused number place (with-count l k c e) = absurd (omega (arith, c .enough, ap (λ (v : Values). v .iterations) e))
+  pub no-count-owed : (number place : ℕ) → CounterOwed (bodyOf s .counter) (NoCount number place)
+      → ((k : ℕ) → CountOf (bodyOf s .counter) k → ⊥) × (number ≡ 20) × (place ≡ 0)
+  no-count-owed number place (no-relation h e) = absurd (known h)
+  no-count-owed number place (without l never e) = (never, ap (λ (v : Values). v .number) e, ap (λ (v : Values). v .place) e)
+  no-count-owed number place (with-count l k c e) = absurd (omega (arith, c .enough, ap (λ (v : Values). v .iterations) e))
 
-  pub owed-counted : (k : ℕ) → CounterOwed (bodyOf s .counter) (Iterations k) → Owed s refused-by with (with k)
-  owed-counted k (no-relation h e) = absurd (known h)
-  owed-counted k (without l never e) = absurd (omega (arith, ap (λ (v : Values). v .number) e))
-  owed-counted k (with-count l j c e) = counted a j c (ap with (ap (λ (v : Values). v .iterations) e))
+  pub count-owed : (k : ℕ) → CounterOwed (bodyOf s .counter) (Iterations k) → CountOf (bodyOf s .counter) k
+  count-owed k (no-relation h e) = absurd (known h)
+  count-owed k (without l never e) = absurd (omega (arith, ap (λ (v : Values). v .number) e))
+  count-owed k (with-count l j c e) = subst (CountOf (bodyOf s .counter)) (sym (ap (λ (v : Values). v .iterations) e)) c
 
--- ---- what is read
+-- ---- how large weights are
 
-module _ (s : List ℕ) (r : Reading) (e : r ≡ reading s) where
-  module _ (v : r .verdict ≡ Accepted) where
-    pub plan-of : {plan : List ℕ} → Planned (r .body) plan → PlanOf plan (r .body .count)
-    plan-of p =
-        record {
-          body = r .body;
-          planned = p;
-          sound = read-sound s r e v;
-          cheap = subst (λ (b : Body). (k : ℕ) → block b k .cost ≤ 1000000) (sym (read-body s r e v)) (cheap s (read-accepted s r e v));
-          size = refl;
-        }
-
-    pub read-counted : (x : Counted) → CounterOwed (r .body .counter) x → CounterOwed (bodyOf s .counter) x
-    read-counted x o = subst (λ (b : Body). CounterOwed (b .counter) x) (read-body s r e v) o
-
-    pub few-iterations : (x : Counted) → CounterOwed (r .body .counter) x → iterationsOf x < 4294967296
-    few-iterations x o =
-        let most = at-most (bodyOf s .counter .initial) (bodyOf s .counter .step) (bodyOf s .counter .relation) (bodyOf s .counter .limit) (well-formed s (read-accepted s r e v) .initial) (said x) (read-counted x o) in
-        omega arith
-
--- ---- how large the answer is
+-- 64 blocks of 1,000,000 at most
+pub cost-range : (s : List ℕ) → judge s ≡ Accepted → Range (bodyOf s .count) (stepCost (bodyOf s)) costLimit
+cost-range s a = record {
+  most = λ _. 1000000;
+  each = λ b way h. cheap s a b;
+  all = rw (up-same 1000000 (bodyOf s .count)) (omega (arith, sound s a .few));
+}
 
 -- the bound fits a word
-pub product : (count weight : ℕ) → count < 4294967296 → weight ≤ 64000000 → Fits w64 (count * weight)
+pub product : (count weight : ℕ) → count < 4294967296 → weight ≤ costLimit → Fits w64 (count * weight)
 product count weight h l = record { fits = lt-of-le-of-lt (le-trans (mul-le-mul-right weight (le-of-lt h)) (mul-le-mul-left 4294967296 l)) (lit< tt) }

@@ -1,4 +1,4 @@
--- A list whose rows are those of a sound body's sets is its plan. Rests on Plan, and on conflict's Sets, whose words the rows are.
+-- A list whose rows are those of a sound body's sets is its plan. Rests on Plan, and on sets' Found, whose words the rows are.
 use mathlib.Core.Bool.{Bool, true, false, cond, _&&_}
 use mathlib.Core.List.{List, [], _∷_, _++_}
 use mathlib.Core.Logic.{inl, inr, ⊎-elim}
@@ -14,23 +14,24 @@ use Rattle.laws.specs.Tests.{split, clash, and-out}
 use Rattle.laws.specs.Sets.{bit-setOf, bit-setOf-beyond, below-or-not}
 use Rattle.form.specs.declared.Block.{Block}
 use Rattle.form.specs.declared.Body.{Body}
-use Rattle.form.specs.Conflict.{Edge, Pair, block, exitsBy, exits, isTest, condition, touches, opposes, denies, listed, conflicts, same, secondOf, Holds, Sound, noBlock}
+use Rattle.form.specs.Conflict.{Edge, Pair, block, exitsBy, exits, wayTo, isTest, condition, touches, opposes, denies, listed, conflicts, same, secondOf, Holds, Sound, noBlock}
 use Rattle.lower_laws.specs.Blocks.{beyond}
 use Rattle.lower_laws.specs.Joined.{past-count, no-test, denies-test, opposes-test, listed-none}
 use Rattle.form.specs.Form.{when}
-use Rattle.path_sets.specs.declared.Sets.{Sets}
-use Rattle.local_sets.specs.Local.{wayTo, localOf}
-use Rattle.path_sets.specs.Sets.{setsOf}
+use Rattle.sets.specs.declared.Sets.{Sets}
+use Rattle.sets.specs.Local.{localOf}
+use Rattle.sets.specs.Found.{setsOf}
 use Rattle.words.specs.Tabled.{tabled, rows}
 use Rattle.words.specs.Filled.{tabled-at}
-use Rattle.theory.specs.Plan.{wordAt, exitBy, Planned}
+use Rattle.theory.specs.Route.{stepCost}
+use Rattle.theory.specs.Plan.{wordAt, targetAt, deniedAt, againstAt, listedAt, exitBy, IsWay, Planned}
 
 -- row b of a body's plan
 abbrev pub rowAt : Body → ℕ → List ℕ
 rowAt body b =
-    wayTo 1 (exits body b)
+    cond (isTest body b) 1 0
+    ∷ wayTo 1 (exits body b)
     ∷ wayTo 2 (exits body b)
-    ∷ block body b .cost
     ∷ setOf 64 (λ k. isTest body k && touches body b (block body k .variable))
     ∷ setOf 64 (λ k. denies body b (k, 1))
     ∷ setOf 64 (λ k. denies body b (k, 2))
@@ -40,15 +41,15 @@ rowAt body b =
     ∷ setOf 64 (λ k. opposes body (b, 2) (k, 2))
     ∷ setOf 64 (λ k. listed (conflicts body) b (k, 1))
     ∷ setOf 64 (λ k. listed (conflicts body) b (k, 2))
-    ∷ cond (isTest body b) 1 0
+    ∷ block body b .cost
     ∷ 0 ∷ 0 ∷ 0 ∷ []
 
 -- the same from a body's sets and the block itself, with the three words that nothing uses
 abbrev pub rowWith : Sets → Block → ℕ → (test : ℕ) → List ℕ
 rowWith sets k b test =
-    getD (sets .targets .jump) b 0
+    test
+    ∷ getD (sets .targets .jump) b 0
     ∷ getD (sets .targets .fall) b 0
-    ∷ k .cost
     ∷ getD (sets .touched) b 0
     ∷ getD (sets .denied .jump) b 0
     ∷ getD (sets .denied .fall) b 0
@@ -58,7 +59,7 @@ rowWith sets k b test =
     ∷ getD (sets .falling .fall) b 0
     ∷ getD (sets .listed .jump) b 0
     ∷ getD (sets .listed .fall) b 0
-    ∷ test
+    ∷ k .cost
     ∷ 0 ∷ 0 ∷ 0 ∷ []
 
 abbrev pub rowFrom : Sets → Block → ℕ → List ℕ
@@ -119,9 +120,9 @@ module _ (body : Body) (b : ℕ) (h : b < 64) where
   unfolding setsOf localOf
   row-same k e =
       λ i.
-      at (λ c. wayTo 1 (exits body c)) i
+      test-is k e i
+      ∷ at (λ c. wayTo 1 (exits body c)) i
       ∷ at (λ c. wayTo 2 (exits body c)) i
-      ∷ e i .cost
       ∷ on (λ c j. isTest body j && touches body c (block body j .variable)) i
       ∷ on (λ c j. denies body c (j, 1)) i
       ∷ on (λ c j. denies body c (j, 2)) i
@@ -131,7 +132,7 @@ module _ (body : Body) (b : ℕ) (h : b < 64) where
       ∷ on (λ c j. opposes body (c, 2) (j, 2)) i
       ∷ on (λ c j. listed (conflicts body) c (j, 1)) i
       ∷ on (λ c j. listed (conflicts body) c (j, 2)) i
-      ∷ test-is k e i
+      ∷ e i .cost
       ∷ 0 ∷ 0 ∷ 0 ∷ []
 
 -- ---- the ways
@@ -146,6 +147,13 @@ exits-back (suc (suc zero)) jump fall h = rw (lt-ltb jump 64 (h (1, jump) (inl r
 exits-back (suc (suc (suc zero))) jump fall h =
     rw (lt-ltb jump 64 (h (1, jump) (inl refl)), lt-ltb fall 64 (h (2, fall) (inr (inl refl))))
 exits-back (suc (suc (suc (suc n)))) jump fall h = refl
+
+-- what holds of both ways
+each-way : (P : ℕ → Type 0) → P 1 → P 2 → (way : ℕ) → IsWay way → P way
+each-way P j f zero (l, h) = let z : ⊥ = omega arith in absurd z
+each-way P j f (suc zero) w = j
+each-way P j f (suc (suc zero)) w = f
+each-way P j f (suc (suc (suc n))) (l, h) = let z : ⊥ = omega arith in absurd z
 
 -- ---- nothing past the last block
 
@@ -177,10 +185,10 @@ module _ (body : Body) (g : Sound body) where
     past-word b w f h l e none k i =
         ap (λ (x : ℕ). bit x k) (read b w h l ∙ e) ∙ ⊎-elim (λ m. bit-setOf 64 f k m ∙ none k i) (λ m. bit-setOf-beyond 64 f k m) (below-or-not k 64)
 
-    ways : (b : ℕ) → b < body .count → exits body b ≡ exitBy 1 (wordAt plan b 0) ++ exitBy 2 (wordAt plan b 1)
+    ways : (b : ℕ) → b < body .count → exits body b ≡ exitBy 1 (targetAt plan b 1) ++ exitBy 2 (targetAt plan b 2)
     unfolding exits
     ways b h =
-        rw (read b 0 h (omega arith), read b 1 h (omega arith))
+        rw (read b 1 h (omega arith), read b 2 h (omega arith))
         (exits-back (block body b .ending) (block body b .jump) (block body b .fall) (λ o m. omega (arith, g .onward .inside b o m, g .few)))
 
     touched : (b k : ℕ) → b < body .count → k < body .count → bit (wordAt plan b 3) k ≡ isTest body k && touches body b (condition body (k, 1) .variable)
@@ -203,23 +211,29 @@ module _ (body : Body) (g : Sound body) where
     within b (suc (suc (suc (suc (suc (suc (suc (suc (suc (suc (suc zero))))))))))) k low high h i = past-word b 11 _ h (omega arith) refl (λ j. listed-past b j 2) k i
     within b (suc (suc (suc (suc (suc (suc (suc (suc (suc (suc (suc (suc w)))))))))))) k low high h i = let z : ⊥ = omega arith in absurd z
 
-    pub planned : Planned body plan
+    denied : (b k : ℕ) → b < body .count → k < body .count → (side : ℕ) → IsWay side → bit (deniedAt plan b side) k ≡ denies body b (k, side)
+    denied b k h i = each-way (λ side. bit (deniedAt plan b side) k ≡ denies body b (k, side)) (within-word b 4 _ h (omega arith) refl k i) (within-word b 5 _ h (omega arith) refl k i)
+
+    against : (b k : ℕ) → b < body .count → k < body .count → (way : ℕ) → IsWay way → (side : ℕ) → IsWay side → bit (againstAt plan b way side) k ≡ opposes body (b, way) (k, side)
+    against b k h i = each-way (λ way. (side : ℕ) → IsWay side → bit (againstAt plan b way side) k ≡ opposes body (b, way) (k, side))
+        (each-way (λ side. bit (againstAt plan b 1 side) k ≡ opposes body (b, 1) (k, side)) (within-word b 6 _ h (omega arith) refl k i) (within-word b 7 _ h (omega arith) refl k i))
+        (each-way (λ side. bit (againstAt plan b 2 side) k ≡ opposes body (b, 2) (k, side)) (within-word b 8 _ h (omega arith) refl k i) (within-word b 9 _ h (omega arith) refl k i))
+
+    listed-are : (b k : ℕ) → b < body .count → k < body .count → (side : ℕ) → IsWay side → bit (listedAt plan b side) k ≡ listed (conflicts body) b (k, side)
+    listed-are b k h i = each-way (λ side. bit (listedAt plan b side) k ≡ listed (conflicts body) b (k, side)) (within-word b 10 _ h (omega arith) refl k i) (within-word b 11 _ h (omega arith) refl k i)
+
+    pub planned : Planned body (stepCost body) plan
     planned =
         record {
           size = size;
+          tests = λ b h. read b 0 h (omega arith);
           ways = ways;
-          costs = λ b h. read b 2 h (omega arith);
+          costs = λ b way h. read b 12 h (omega arith);
           touched = touched;
-          denied-jumps = λ b k h i. within-word b 4 _ h (omega arith) refl k i;
-          denied-falls = λ b k h i. within-word b 5 _ h (omega arith) refl k i;
-          jump-jumps = λ b k h i. within-word b 6 _ h (omega arith) refl k i;
-          jump-falls = λ b k h i. within-word b 7 _ h (omega arith) refl k i;
-          fall-jumps = λ b k h i. within-word b 8 _ h (omega arith) refl k i;
-          fall-falls = λ b k h i. within-word b 9 _ h (omega arith) refl k i;
-          listed-jumps = λ b k h i. within-word b 10 _ h (omega arith) refl k i;
-          listed-falls = λ b k h i. within-word b 11 _ h (omega arith) refl k i;
+          denied = λ b k side s h i. denied b k h i side s;
+          against = λ b way k side w s h i. against b k h i way w side s;
+          listed-are = λ b k side s h i. listed-are b k h i side s;
           within = within;
-          tests = λ b h. read b 12 h (omega arith);
         }
 
 block-is : (body : Body) (b : ℕ) → b < body .count → getD (body .blocks) b noBlock ≡ block body b
@@ -229,7 +243,7 @@ block-is body b h = sym (getD-take (body .count) (body .blocks) b noBlock h)
 -- what the loop has at its end is the plan
 pub planned-rows :
     (body : Body) (g : Sound body) (plan : List ℕ) → length plan ≡ 1024 → (sets : Sets) → sets ≡ setsOf body
-    → Rows (λ c. rowFrom sets (getD (body .blocks) c noBlock) c) 64 plan → Planned body plan
+    → Rows (λ c. rowFrom sets (getD (body .blocks) c noBlock) c) 64 plan → Planned body (stepCost body) plan
 planned-rows body g plan size sets e r =
     planned body g plan size
     (λ b w h l.

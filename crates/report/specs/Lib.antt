@@ -1,7 +1,4 @@
 -- The report: what is printed (Report, trusted), that it is one text for every input and depends on the front of it alone (Promise), and the laws that the proofs share.
 pub mod Report
-pub mod Adding
-pub mod Digits
-pub mod Steps
 pub mod Parts
 pub mod Promise

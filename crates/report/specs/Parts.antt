@@ -13,7 +13,7 @@ use Rattle.form.specs.Form.{when, judge, bodyOf}
 use Rattle.form.specs.Answer.{reading}
 use Rattle.form.specs.Conflict.{conflicts, conflictBytes}
 use Rattle.listing.specs.declared.Listed.{Listed}
-use Rattle.listing.specs.declared.Listed.the-variants.{Bytes, Unlisted}
+use Rattle.listing.specs.declared.Listed.the-variants.{Bytes, Refused as Unlisted}
 use Rattle.listing.specs.Answer.{listing, asJudged}
 use Rattle.listing.specs.Listing.{bytes-length}
 use Rattle.sweep.specs.declared.SweepAnswer.{SweepAnswer}
@@ -22,9 +22,10 @@ use Rattle.walk.specs.declared.WalkAnswer.{WalkAnswer}
 use Rattle.walk.specs.Answer.{WalkOwed, said}
 use Rattle.table.specs.Answer.{OwnTableOwed}
 use Rattle.table.specs.Uniqueness.{own-answered}
-use Rattle.report.specs.Report.{line, refusalLine, routeLine, walkedLine, blocksWord, iterationsWord, conflictsWord, weightWord, boundWord, keptWord, noRoute, budget, Reported}
+use Rattle.report.specs.Report.{walkedLine, blocksWord, iterationsWord, conflictsWord, weightWord, boundWord, keptWord, noRoute, budget, Reported}
+use Rattle.text.specs.Text.{line, refusalLine, routeLine}
 use Rattle.report.specs.Report.Reported.{refused, reported}
-use Rattle.report.specs.Adding.{Adds, then}
+use Rattle.lent.specs.Adding.{Adds, then}
 
 -- the walk's line, from an answer that the walk owes
 pub record WalkedAdds (form before : List ℕ) (at : ℕ) (after : List ℕ) (r : ℕ) : Type 0 where

@@ -28,7 +28,8 @@ use Rattle.walk.specs.Promise.{one-walk}
 use Rattle.table.specs.declared.Entry.{Entry}
 use Rattle.table.specs.Answer.{tableWith, under, TableOwed, ownTable}
 use Rattle.table.specs.Uniqueness.{table-answered, own-answered, one-own}
-use Rattle.report.specs.Report.{refusalLine, eightLines, noRoute, budget, Reported}
+use Rattle.report.specs.Report.{eightLines, noRoute, budget, Reported}
+use Rattle.text.specs.Text.{refusalLine}
 use Rattle.report.specs.Report.Reported.{refused, reported}
 
 -- ---- one text

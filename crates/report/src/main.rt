@@ -8,11 +8,8 @@ ghost use Rattle.form.specs.declared.Verdict.the-variants.{Accepted};
 ghost use Rattle.form.specs.Form.{judge, bodyOf};
 ghost use Rattle.form.specs.Conflict.{conflicts};
 ghost use Rattle.report.specs.Report.{Reported};
-ghost use Rattle.report.specs.Adding.{Adds};
+ghost use Rattle.lent.specs.Adding.{Adds};
 ghost use Rattle.report.specs.Parts.{WalkedAdds, ThreeAdds, fiveLines};
-
-mod text;
-
 use listing::Listed;
 use sweep::SweepAnswer;
 use walk::WalkAnswer;
@@ -24,7 +21,7 @@ fn entries(form: &[u8]) -> u64
     let mut none = [0u8; 1];
     match listing::conflicts(form, &mut none[..0]) {
         Listed::Bytes(count) => (count / 5) as u64,
-        Listed::Unlisted { number: _, place } => (place / 5) as u64,
+        Listed::Refused { number: _, place } => (place / 5) as u64,
     }
 }
 
@@ -58,7 +55,7 @@ fn walked_line(out: &mut [u8], at: usize, form: &[u8]) -> usize
         WalkAnswer::Refused {
             number: _,
             place: _,
-        } => text::put(out, at, b"walked over\n"),
+        } => lent::put(out, at, b"walked over\n"),
     }
 }
 
@@ -78,7 +75,7 @@ fn report(form: &[u8], out: &mut [u8]) -> usize
     ensures { λ r. ⌜ Reported (now (form .entry)) (take r (now (out .exit))) × (r ≤ 1700) ⌝ }
 {
     let mut route = [0u8; 64];
-    match table::sweep_own(form, &mut route) {
+    match sweep::sweep_own(form, &mut route) {
         SweepAnswer::Routed {
             iterations,
             weight,

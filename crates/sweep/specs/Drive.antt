@@ -1,37 +1,36 @@
--- The drive of the sweep: where the table, the lengths and kept stand between two blocks, for any body with this plan; the start, one turn and the end.
--- Rests on SweepDown, SweepTurn and SweepTable.
+-- The drive of the sweep: where the table, the lengths and kept stand between two blocks, for any body and costs with this plan; the start, one turn and the end. Rests on Turn
+-- and Table.
 use mathlib.Core.Path.{_≡_, refl, sym, ap, ap₂, subst, _∙_}
-use mathlib.Core.Logic.{inl, inr}
-use mathlib.Core.Bool.{Bool, true, false, cond}
-use mathlib.Core.List.{List, [], _∷_, map}
+use mathlib.Core.Bool.{cond}
+use mathlib.Core.List.{List, [], map}
 use mathlib.Core.Option.{Option, none, some}
 use Prim.Native.Nat.{ℕ, zero, suc, max, _+_, _*_, _-_, _^_, _≤_, _<_}
-use native.Mathlib.Nat.{zero-add, add-zero, add-suc, suc-add, le-trans, mul-le-mul-right, max-zero, zero-max}
+use native.Mathlib.Nat.{zero-add, le-trans, max-zero, zero-max}
 use native.Mathlib.Omega.{arith}
 use borrow.Author.Tests.{eqb-true, eqb-false, lt-ltb, le-ltb, ltb-true, ltb-false}
 use lib.Dec.{eqb, ltb}
-use lib.ListN.{length, getD, take, set, replicate, length-set, length-take, length-replicate, length-map, getD-replicate, List·getD-eq-default}
+use lib.ListN.{length, getD, set, replicate, length-set, length-replicate, getD-replicate, List·getD-eq-default}
 use lib.Seq.{paste, length-paste, getD-set-same, getD-set-other}
 use Rattle.laws.specs.Terms.{Mem, heavier}
 use Rattle.laws.specs.Tests.{split}
-use Rattle.laws.specs.Orders.{heaviest}
 use Rattle.form.specs.declared.Body.{Body}
-use Rattle.form.specs.declared.Block.{Block}
-use Rattle.form.specs.Conflict.{Sound, block, noBlock, conflicts}
-use Rattle.theory.specs.Route.{stepCost}
-use Rattle.theory.specs.Row.{Entry, Key, row, filled, longest, highest}
-use Rattle.theory.specs.SweepWords.{Words, entryFrom, Fits, entry-fits, row-words, row-length}
-use Rattle.theory.specs.Listing.{listing}
+use Rattle.form.specs.Conflict.{Sound, conflicts}
+use Rattle.theory.specs.Route.{Side}
+use Rattle.theory.specs.Row as theory
+use Rattle.theory.specs.Row.{Key, filled, longest, highest}
+use Rattle.theory.specs.SweepWords as words
+use Rattle.theory.specs.SweepWords.{Words, row-words, row-length}
+use Rattle.theory.specs.Range.{Range, up-past, upTo}
+use Rattle.theory.specs.Plan.{costAt, Planned, PlanOf, costLimit}
+use Rattle.rows.specs.declared.Entry.{Entry}
+use Rattle.rows.specs.Entries.{entriesFrom, entries-length}
+use Rattle.rows.specs.Structs.{tupleOf, structAt}
+use Rattle.rows.specs.Begun.{Holds}
 use Rattle.sweep.specs.declared.Swept.{Swept}
 use Rattle.sweep.specs.declared.Swept.the-variants.{Crowded, Rows}
-use Rattle.theory.specs.Plan.{wordAt, Planned}
-use Rattle.theory.specs.Plan.{PlanOf}
-use Rattle.sweep.specs.Entries.{entryAt, entriesFrom, entries-alike, entries-length}
-use Rattle.sweep.specs.Rows.{rowIn, leftFrom, Ready}
-use Rattle.sweep.specs.Turn.{begunWith, rowOf, row-is}
-use Rattle.sweep.specs.Terms.{flat, tableWith}
-use Rattle.sweep.specs.Table.{row-laid, paste-low, paste-in, paste-high, table-none, table-more}
-use Rattle.sweep.specs.Down.{Holds, Stored, Turned}
+use Rattle.sweep.specs.Answer.{entryFrom, noEntry, tableWith, rowsOn}
+use Rattle.sweep.specs.Table.{entriesIn, in-length, in-mem, in-alike, in-words, structsOf, structs-length, structs-at, row-laid, paste-in, paste-high, table-none, table-more}
+use Rattle.sweep.specs.Turn.{rowOf, range-of, entry-small, row-is, rowIn, rowFrom, Stored, Turned}
 
 -- ---- the lengths
 
@@ -69,29 +68,29 @@ lengths-more count b n lengths h few l w = record {
 
 -- ---- the table
 
--- the rows of the body, as document 01 has them
-abbrev pub rowsOf : Body → ℕ → List Entry
-rowsOf body = row body (conflicts body) (stepCost body) heavier
+-- the code prefers the heavier
+abbrev pub heaviestBy : (cost : ℕ → ℕ → ℕ) → Side
+heaviestBy cost = record { prefers = heavier; cost = cost }
 
-abbrev pub longestRow : Body → ℕ → ℕ
-longestRow body = longest (rowsOf body)
+abbrev pub longestRow : Body → (cost : ℕ → ℕ → ℕ) → ℕ → ℕ
+longestRow body cost = longest (rowsOn body (heaviestBy cost))
 
-abbrev pub highestCrowd : Body → ℕ → Option ℕ
-highestCrowd body = highest (rowsOf body)
+abbrev pub highestCrowd : Body → (cost : ℕ → ℕ → ℕ) → ℕ → Option ℕ
+highestCrowd body cost = highest (rowsOn body (heaviestBy cost))
 
 -- the rows from b on are complete; what they say of kept and of the highest crowded block
-pub record Down (body : Body) (lent table lengths : List ℕ) (b kept found : ℕ) : Type 0 where
-  pub rows : (t : ℕ) → b ≤ t → t < body .count → rowIn table lengths t ≡ rowOf body t
-  pub table-is : table ≡ tableWith (rowsOf body) b (body .count) lent
-  pub kept-is : max kept (longestRow body b) ≡ longestRow body (body .count)
-  pub crowd-is : highestCrowd body b ≡ highestCrowd body (body .count)
-  pub found-is : b < body .count → found ≡ length (rowOf body b)
+pub record Down (body : Body) (cost : ℕ → ℕ → ℕ) (lent table : List Entry) (lengths : List ℕ) (b kept found : ℕ) : Type 0 where
+  pub rows : (t : ℕ) → b ≤ t → t < body .count → rowIn table lengths t ≡ rowOf body cost t
+  pub table-is : table ≡ tableWith (rowsOn body (heaviestBy cost)) b (body .count) lent
+  pub kept-is : max kept (longestRow body cost b) ≡ longestRow body cost (body .count)
+  pub crowd-is : highestCrowd body cost b ≡ highestCrowd body cost (body .count)
+  pub found-is : b < body .count → found ≡ length (rowOf body cost b)
 
-pub down-start : (body : Body) (lent lengths : List ℕ) → Down body lent lent lengths (body .count) 0 0
-down-start body lent lengths = record {
+down-start : (body : Body) (cost : ℕ → ℕ → ℕ) (lent : List Entry) (lengths : List ℕ) → Down body cost lent lent lengths (body .count) 0 0
+down-start body cost lent lengths = record {
   rows = λ t h k. absurd (never t h k);
-  table-is = sym (table-none (rowsOf body) (body .count) lent);
-  kept-is = zero-max (longestRow body (body .count));
+  table-is = sym (table-none (rowsOn body (heaviestBy cost)) (body .count) lent);
+  kept-is = zero-max (longestRow body cost (body .count));
   crowd-is = refl;
   found-is = λ h. absurd (same h);
 }
@@ -105,99 +104,93 @@ down-start body lent lengths = record {
 max-three : (a b c : ℕ) → max (max a b) c ≡ max a (max b c)
 max-three a b c = omega arith
 
-longest-suc : (rows : ℕ → List Entry) (b : ℕ) → longest rows (suc b) ≡ max (length (rows b)) (longest rows b)
+longest-suc : (rows : ℕ → List theory.Entry) (b : ℕ) → longest rows (suc b) ≡ max (length (rows b)) (longest rows b)
 unfolding longest
 longest-suc rows b = refl
 
-highest-suc : (rows : ℕ → List Entry) (b : ℕ) → highest rows (suc b) ≡ cond (ltb 64 (length (rows b))) (some b) (highest rows b)
+highest-suc : (rows : ℕ → List theory.Entry) (b : ℕ) → highest rows (suc b) ≡ cond (ltb 64 (length (rows b))) (some b) (highest rows b)
 unfolding highest
 highest-suc rows b = refl
 
-module _ (body : Body) (lent table lengths : List ℕ) (b kept found : ℕ) (inside : b < body .count) (few : body .count ≤ 64) (room : 320 * body .count ≤ length lent) (same : length table ≡ length lent)
-    (sizes : Lengths (body .count) (suc b) lengths) (d : Down body lent table lengths (suc b) kept found) where
-  row-size : length (rowsOf body b) ≡ length (rowOf body b)
-  row-size = row-length body (conflicts body) (stepCost body) heavier b
+module _ (body : Body) (cost : ℕ → ℕ → ℕ) (lent table : List Entry) (lengths : List ℕ) (b kept found : ℕ) (inside : b < body .count) (few : body .count ≤ 64) (room : 64 * body .count ≤ length lent)
+    (same : length table ≡ length lent) (sizes : Lengths (body .count) (suc b) lengths) (d : Down body cost lent table lengths (suc b) kept found) where
+  row-size : length (rowsOn body (heaviestBy cost) b) ≡ length (rowOf body cost b)
+  row-size = row-length body (conflicts body) cost heavier b
 
   -- a row of up to 64 entries is stored
-  module _ (new news : List ℕ) (n : ℕ) (s : Stored (rowOf body b) table new lengths news b n) where
-    h : Holds (rowOf body b) (s .row) n
+  module _ (new : List Entry) (n : ℕ) (s : Stored (rowOf body cost b) table new b n) where
+    h : Holds (rowOf body cost b) (s .row) n
     h = s .holds
 
-    n-is : n ≡ length (rowOf body b)
+    n-is : n ≡ length (rowOf body cost b)
     n-is = sym (entries-length (s .row) 0 n) ∙ ap length (h .held)
 
-    in-table : 320 * b + 320 ≤ length table
+    in-table : 64 * b + 64 ≤ length table
     in-table = omega arith
 
-    other-lengths : (t : ℕ) → suc b ≤ t → getD news t 0 ≡ getD lengths t 0
-    other-lengths t k = ap (λ l. getD l t 0) (s .lengths-is) ∙ getD-set-other lengths b t n 0 (λ q. omega arith)
+    abbrev news : List ℕ
+    news = set lengths b n
 
-    own-length : getD news b 0 ≡ n
-    own-length = ap (λ l. getD l b 0) (s .lengths-is) ∙ getD-set-same lengths b n 0 (omega (arith, sizes .size))
-
-    own-row : rowIn new news b ≡ rowOf body b
+    own-row : rowIn new news b ≡ rowOf body cost b
     own-row =
-        ap (entriesFrom new (64 * b)) own-length
-        ∙ entries-alike new (s .row) n (64 * b) 0 (λ k l. ap₂ (λ t i. getD t i 0) (s .table-is) (at b k) ∙ paste-in table (s .row) (320 * b) 320 in-table (h .size) k (omega (arith, h .few)) ∙ ap (λ i. getD (s .row) i 0) (sym (zero-add k)))
+        ap (entriesIn new (64 * b)) (getD-set-same lengths b n 0 (omega (arith, sizes .size)))
+        ∙ sym (in-words (s .row) new n 0 (64 * b) (λ k l.
+        ap (λ i. tupleOf (structAt (s .row) i)) (zero-add k)
+        ∙ ap tupleOf (sym (ap (λ t. getD t (64 * b + k) noEntry) (s .table-is) ∙ paste-in noEntry table (structsOf (s .row)) (64 * b) 64 in-table (structs-length (s .row)) k (omega (arith, h .few)) ∙ structs-at (s .row) k (omega (arith, h .few))))))
         ∙ h .held
-      where
-        at : (b k : ℕ) → 5 * (64 * b) + k ≡ 320 * b + k
-        at b k = omega arith
 
     other-row : (t : ℕ) → suc b ≤ t → rowIn new news t ≡ rowIn table lengths t
     other-row t k =
-        ap (entriesFrom new (64 * t)) (other-lengths t k)
-        ∙ entries-alike new table (getD lengths t 0) (64 * t) (64 * t) (λ i l. ap (λ w. getD w (5 * (64 * t) + i) 0) (s .table-is) ∙ paste-high table (s .row) (320 * b) 320 in-table (h .size) (5 * (64 * t) + i) (omega arith))
+        ap (entriesIn new (64 * t)) (getD-set-other lengths b t n 0 (λ q. omega arith))
+        ∙ in-alike new table (getD lengths t 0) (64 * t) (64 * t)
+        (λ i l. ap (λ w. getD w (64 * t + i) noEntry) (s .table-is) ∙ paste-high noEntry table (structsOf (s .row)) (64 * b) 64 in-table (structs-length (s .row)) (64 * t + i) (omega arith))
 
-    pub down-more : Down body lent new news b (max kept n) n
+    down-more : Down body cost lent new news b (max kept n) n
     down-more = record {
       rows = λ t l k. split (eqb t b)
-          (λ q. subst (λ (t : ℕ). rowIn new news t ≡ rowOf body t) (sym (eqb-true t b q)) own-row)
+          (λ q. subst (λ (t : ℕ). rowIn new news t ≡ rowOf body cost t) (sym (eqb-true t b q)) own-row)
           (λ q. let e = eqb-false t b q in other-row t (omega arith) ∙ d .rows t (omega arith) k);
       table-is =
           s .table-is
-          ∙ ap (λ t. paste t (320 * b) (s .row) 320) (d .table-is)
-          ∙ table-more (rowsOf body) (body .count) lent b (s .row) inside room (h .size)
-          (row-laid (s .row) n (h .size) (h .few) (h .zeros) ∙ ap (λ r. flat (filled r)) (ap (map entryFrom) (h .held) ∙ sym (row-words body (conflicts body) (stepCost body) heavier b)));
+          ∙ ap (λ t. paste t (64 * b) (structsOf (s .row)) 64) (d .table-is)
+          ∙ table-more (rowsOn body (heaviestBy cost)) (body .count) lent b (structsOf (s .row)) inside room (structs-length (s .row))
+          (row-laid (s .row) n (h .few) (h .zeros) ∙ ap (λ r. map entryFrom (filled r)) (ap (map words.entryFrom) (h .held) ∙ sym (row-words body (conflicts body) cost heavier b)));
       kept-is =
-          max-three kept n (longestRow body b)
-          ∙ ap (λ m. max kept (max m (longestRow body b))) (n-is ∙ sym row-size)
-          ∙ ap (max kept) (sym (longest-suc (rowsOf body) b))
+          max-three kept n (longestRow body cost b)
+          ∙ ap (λ m. max kept (max m (longestRow body cost b))) (n-is ∙ sym row-size)
+          ∙ ap (max kept) (sym (longest-suc (rowsOn body (heaviestBy cost)) b))
           ∙ d .kept-is;
       crowd-is =
-          sym (highest-suc (rowsOf body) b ∙ ap (λ c. cond c (some b) (highestCrowd body b)) (le-ltb 64 (length (rowsOf body b)) (omega (arith, row-size, n-is, h .few))))
+          sym (highest-suc (rowsOn body (heaviestBy cost)) b ∙ ap (λ c. cond c (some b) (highestCrowd body cost b)) (le-ltb 64 (length (rowsOn body (heaviestBy cost) b)) (omega (arith, row-size, n-is, h .few))))
           ∙ d .crowd-is;
       found-is = λ k. n-is;
     }
 
   -- more than 64 sets: the block is the highest crowded one
-  pub down-over : 64 < length (rowOf body b) → highestCrowd body (body .count) ≡ some b
+  down-over : 64 < length (rowOf body cost b) → highestCrowd body cost (body .count) ≡ some b
   down-over h =
       sym (d .crowd-is)
-      ∙ highest-suc (rowsOf body) b
-      ∙ ap (λ c. cond c (some b) (highestCrowd body b)) (lt-ltb 64 (length (rowsOf body b)) (omega (arith, row-size)))
+      ∙ highest-suc (rowsOn body (heaviestBy cost)) b
+      ∙ ap (λ c. cond c (some b) (highestCrowd body cost b)) (lt-ltb 64 (length (rowsOn body (heaviestBy cost) b)) (omega (arith, row-size)))
 
 -- ---- a turn, from the plan
 
-pub entry-mem : (l : List ℕ) (i n k : ℕ) → k < n → Mem (entryAt l (i + k)) (entriesFrom l i n)
-unfolding entriesFrom
-entry-mem l i (suc n) zero h = inl (ap (entryAt l) (add-zero i))
-entry-mem l i (suc n) (suc k) h = inr (subst (λ (j : ℕ). Mem (entryAt l j) (entriesFrom l (suc i) n)) (suc-add i k ∙ sym (add-suc i k)) (entry-mem l (suc i) n k (omega arith)))
+-- what a step costs, and what an entry weighs, is no more than the limit
+module _ (body : Body) (g : Sound body) (cost : ℕ → ℕ → ℕ) (range : Range (body .count) cost costLimit) where
+  cost-few : (b way : ℕ) → b < body .count → cost b way ≤ costLimit
+  cost-few b way h = omega (arith, range .each b way h, up-past (range .most) b (body .count) (body .count) h (omega arith), range .all)
 
--- what stands past the count costs nothing
-pub cheap-all : (body : Body) (plan : List ℕ) → Planned body plan → ((b : ℕ) → b < body .count → wordAt plan b 2 ≤ 1000000) → (b : ℕ) → block body b .cost ≤ 1000000
-unfolding block
-cheap-all body plan p cheap b = split (ltb b (body .count))
-    (λ h. subst (λ (c : ℕ). c ≤ 1000000) (p .costs b (ltb-true b (body .count) h)) (cheap b (ltb-true b (body .count) h)))
-    (λ h. subst (λ (k : Block). k .cost ≤ 1000000) (sym (List·getD-eq-default (take (body .count) (body .blocks)) noBlock {n = b} (omega (arith, length-take (body .count) (body .blocks), ltb-false b (body .count) h)))) (omega arith))
+  pub weight-few : (t : ℕ) → t < body .count → (e : Key × Words) → Mem e (rowOf body cost t) → e .1 .0 ≤ costLimit
+  weight-few t h e m = omega (arith, entry-small body g cost range t h e m .weighs, range .all)
 
-module _ (body : Body) (g : Sound body) (plan : List ℕ) (fits : (k : ℕ) → getD plan k 0 < 2 ^ 64) (planned : Planned body plan) (cheap : (b : ℕ) → block body b .cost ≤ 1000000)
-    (lent table lengths : List ℕ) (b kept found : ℕ) (inside : b < body .count) (sizes : Lengths (body .count) (suc b) lengths) (d : Down body lent table lengths (suc b) kept found) where
-  above : (t : ℕ) → b < t → t < body .count → rowIn table lengths t ≡ rowOf body t
-  above t h k = d .rows t h k
+module _ (body : Body) (g : Sound body) (cost : ℕ → ℕ → ℕ) (range : Range (body .count) cost costLimit) (plan : List ℕ) (fits : (k : ℕ) → getD plan k 0 < 2 ^ 64) (planned : Planned body cost plan)
+    (lent table : List Entry) (lengths : List ℕ) (b kept found : ℕ) (inside : b < body .count) (sizes : Lengths (body .count) (suc b) lengths) (d : Down body cost lent table lengths (suc b) kept found) where
+  no-row : (t : ℕ) → 64 ≤ t → rowIn table lengths t ≡ []
+  unfolding entriesIn
+  no-row t h = ap (entriesIn table (64 * t)) (List·getD-eq-default lengths 0 {n = t} (omega (arith, sizes .size)))
 
-  pub turn-row : leftFrom plan table lengths b 1 (begunWith plan (body .count) b) ≡ rowOf body b
-  turn-row = row-is body g plan fits planned cheap table lengths (sizes .size) b inside above
+  turn-row : rowFrom plan (body .count) table lengths b ≡ rowOf body cost b
+  turn-row = row-is body g cost range plan fits planned (rowIn table lengths) no-row b inside (λ t h k. d .rows t h k)
 
   some-row : (t i : ℕ) → i < getD lengths t 0 → (b < t) × (t < body .count)
   some-row t i h = (
@@ -211,96 +204,87 @@ module _ (body : Body) (g : Sound body) (plan : List ℕ) (fits : (k : ℕ) → 
       high : body .count ≤ t → ⊥
       high l = omega (arith, sizes .high t l)
 
-  weight-small : (t i : ℕ) → i < getD lengths t 0 → getD table (5 * (64 * t + i) + 2) 0 ≤ 64000000
-  weight-small t i h =
+  turn-light : (way t i : ℕ) → i < getD lengths t 0 → costAt plan b way + getD table (64 * t + i) noEntry .way .weight < 2 ^ 64
+  turn-light way t i h =
       let (l, k) = some-row t i h in
-      let m = subst (Mem (entryAt table (64 * t + i))) (above t l k) (entry-mem table (64 * t) (getD lengths t 0) i h) in
-      let f = entry-fits body (g .onward) (conflicts body) (listing body (g .onward)) (stepCost body) 1000000 (λ b way. cheap b) heavier heaviest t k (entryAt table (64 * t + i)) m in
-      let c : body .count - t ≤ 64 = omega (arith, g .few) in
-      le-trans (f .weighs) (mul-le-mul-right 1000000 c)
-
-  pub turn-ready : 320 * body .count ≤ length table → Ready plan table lengths b
-  turn-ready room = record {
-    size = planned .size;
-    below = omega (arith, g .few);
-    rows = sizes .size;
-    room = λ t i h. let (l, k) = some-row t i h in omega (arith, sizes .few t);
-    light = λ t i h. omega (arith, weight-small t i h, planned .costs b inside, cheap b);
-  }
+      let m = subst (Mem (tupleOf (getD table (64 * t + i) noEntry))) (d .rows t l k) (in-mem table (64 * t) (getD lengths t 0) i h) in
+      let w = weight-few body g cost range t k (tupleOf (getD table (64 * t + i) noEntry)) m in
+      omega (arith, w, planned .costs b way inside, cost-few body g cost range b way inside)
 
 -- ---- what the drive answers
 
 -- the highest crowded block, or kept and the length of row 0
-abbrev pub sweptOf : Body → Option ℕ → Swept
-sweptOf body none = Rows (longestRow body (body .count)) (length (rowOf body 0))
-sweptOf body (some b) = Crowded b
+abbrev pub sweptOf : Body → (cost : ℕ → ℕ → ℕ) → Option ℕ → Swept
+sweptOf body cost none = Rows (longestRow body cost (body .count)) (length (rowOf body cost 0))
+sweptOf body cost (some b) = Crowded b
 
 -- the rows from here on are complete
 abbrev pub completeFrom : Option ℕ → ℕ
 completeFrom none = 0
 completeFrom (some b) = suc b
 
-pub record SweptAs (body : Body) (lent table : List ℕ) (answer : Swept) : Type 0 where
-  pub answer-is : answer ≡ sweptOf body (highestCrowd body (body .count))
-  pub table-is : table ≡ tableWith (rowsOf body) (completeFrom (highestCrowd body (body .count))) (body .count) lent
-  pub first : (kept found : ℕ) → answer ≡ Rows kept found → entriesFrom table 0 found ≡ rowOf body 0
+pub record SweptAs (body : Body) (cost : ℕ → ℕ → ℕ) (lent table : List Entry) (answer : Swept) : Type 0 where
+  pub answer-is : answer ≡ sweptOf body cost (highestCrowd body cost (body .count))
+  pub table-is : table ≡ tableWith (rowsOn body (heaviestBy cost)) (completeFrom (highestCrowd body cost (body .count))) (body .count) lent
+  pub first : (kept found : ℕ) → answer ≡ Rows kept found → entriesIn table 0 found ≡ rowOf body cost 0
 
-pub swept-crowded : (body : Body) (lent table lengths : List ℕ) (b kept found : ℕ) → highestCrowd body (body .count) ≡ some b → Down body lent table lengths (suc b) kept found → SweptAs body lent table (Crowded b)
-swept-crowded body lent table lengths b kept found e d = record {
-  answer-is = sym (ap (sweptOf body) e);
-  table-is = d .table-is ∙ ap (λ o. tableWith (rowsOf body) (completeFrom o) (body .count) lent) (sym e);
-  first = λ k f q. absurd (never k f q);
-}
-  where
-    never : (k f : ℕ) → Crowded b ≡ Rows k f → ⊥
-    never k f q = let z : _≡_ {A = ℕ} 0 1 = cc in omega arith
+module _ (body : Body) (cost : ℕ → ℕ → ℕ) (lent table : List Entry) (lengths : List ℕ) where
+  swept-crowded : (b kept found : ℕ) → highestCrowd body cost (body .count) ≡ some b → Down body cost lent table lengths (suc b) kept found → SweptAs body cost lent table (Crowded b)
+  swept-crowded b kept found e d = record {
+    answer-is = sym (ap (sweptOf body cost) e);
+    table-is = d .table-is ∙ ap (λ o. tableWith (rowsOn body (heaviestBy cost)) (completeFrom o) (body .count) lent) (sym e);
+    first = λ k f q. absurd (never k f q);
+  }
+    where
+      never : (k f : ℕ) → Crowded b ≡ Rows k f → ⊥
+      never k f q = let z : _≡_ {A = ℕ} 0 1 = cc in omega arith
 
-pub swept-whole : (body : Body) (lent table lengths : List ℕ) (kept found : ℕ) → 0 < body .count → Down body lent table lengths 0 kept found → SweptAs body lent table (Rows kept found)
-unfolding longest highest
-swept-whole body lent table lengths kept found any-block d = record {
-  answer-is = ap₂ Rows (sym (max-zero kept) ∙ d .kept-is) (d .found-is any-block) ∙ ap (sweptOf body) (d .crowd-is);
-  table-is = d .table-is ∙ ap (λ o. tableWith (rowsOf body) (completeFrom o) (body .count) lent) (d .crowd-is);
-  first = λ k f q. ap (entriesFrom table 0) (same k f q ∙ d .found-is any-block ∙ sym (ap length row-zero) ∙ entries-length table 0 (getD lengths 0 0)) ∙ row-zero;
-}
-  where
-    row-zero : entriesFrom table 0 (getD lengths 0 0) ≡ rowOf body 0
-    row-zero = d .rows 0 (omega arith) any-block
+  swept-whole : (kept found : ℕ) → 0 < body .count → Down body cost lent table lengths 0 kept found → SweptAs body cost lent table (Rows kept found)
+  unfolding longest highest
+  swept-whole kept found any-block d = record {
+    answer-is = ap₂ Rows (sym (max-zero kept) ∙ d .kept-is) (d .found-is any-block) ∙ ap (sweptOf body cost) (d .crowd-is);
+    table-is = d .table-is ∙ ap (λ o. tableWith (rowsOn body (heaviestBy cost)) (completeFrom o) (body .count) lent) (d .crowd-is);
+    first = λ k f q. ap (entriesIn table 0) (same k f q ∙ d .found-is any-block ∙ sym (ap length row-zero) ∙ in-length table 0 (getD lengths 0 0)) ∙ row-zero;
+  }
+    where
+      row-zero : entriesIn table 0 (getD lengths 0 0) ≡ rowOf body cost 0
+      row-zero = d .rows 0 (omega arith) any-block
 
-    same : (k f : ℕ) → Rows kept found ≡ Rows k f → f ≡ found
-    same k f q = cc
+      same : (k f : ℕ) → Rows kept found ≡ Rows k f → f ≡ found
+      same k f q = cc
 
--- ---- the loop
+-- ---- between two blocks
 
-pub record Sweeping (plan lent table lengths : List ℕ) (count b kept found : ℕ) : Type 0 where
-  pub rows : (body : Body) → Planned body plan → Sound body → body .count ≡ count → Down body lent table lengths b kept found
+pub record Sweeping (plan : List ℕ) (lent table : List Entry) (lengths : List ℕ) (count b kept found : ℕ) : Type 0 where
+  pub rows : (body : Body) (cost : ℕ → ℕ → ℕ) → Planned body cost plan → Sound body → body .count ≡ count → Down body cost lent table lengths b kept found
   pub sizes : Lengths count b lengths
   pub same : length table ≡ length lent
   pub below : b ≤ count
 
-pub sweeping-start : (plan lent : List ℕ) (count : ℕ) → Sweeping plan lent lent noLengths count count 0 0
+pub sweeping-start : (plan : List ℕ) (lent : List Entry) (count : ℕ) → Sweeping plan lent lent noLengths count count 0 0
 sweeping-start plan lent count = record {
-  rows = λ body p g e. subst (λ (n : ℕ). Down body lent lent noLengths n 0 0) e (down-start body lent noLengths);
+  rows = λ body cost p g e. subst (λ (n : ℕ). Down body cost lent lent noLengths n 0 0) e (down-start body cost lent noLengths);
   sizes = lengths-none count;
   same = refl;
   below = omega arith;
 }
 
-pub sweeping-end : (plan lent table lengths : List ℕ) (count b kept found : ℕ) → b ≡ 0 → Sweeping plan lent table lengths count b kept found
-    → (body : Body) → Planned body plan → Sound body → body .count ≡ count → SweptAs body lent table (Rows kept found)
-sweeping-end plan lent table lengths count b kept found z w body p g e =
-    swept-whole body lent table lengths kept found (g .some) (subst (λ (n : ℕ). Down body lent table lengths n kept found) z (w .rows body p g e))
+pub sweeping-end : (plan : List ℕ) (lent table : List Entry) (lengths : List ℕ) (count b kept found : ℕ) → b ≡ 0 → Sweeping plan lent table lengths count b kept found
+    → (body : Body) (cost : ℕ → ℕ → ℕ) → Planned body cost plan → Sound body → body .count ≡ count → SweptAs body cost lent table (Rows kept found)
+sweeping-end plan lent table lengths count b kept found z w body cost p g e =
+    swept-whole body cost lent table lengths kept found (g .some) (subst (λ (n : ℕ). Down body cost lent table lengths n kept found) z (w .rows body cost p g e))
 
-module _ (plan : List ℕ) (fits : (k : ℕ) → getD plan k 0 < 2 ^ 64) (count : ℕ) (of : PlanOf plan count) (lent table lengths : List ℕ) (room : 320 * count ≤ length lent) (b kept found : ℕ) (more : 0 < b)
+module _ (plan : List ℕ) (fits : (k : ℕ) → getD plan k 0 < 2 ^ 64) (count : ℕ) (of : PlanOf plan count) (lent table : List Entry) (lengths : List ℕ) (room : 64 * count ≤ length lent) (b kept found : ℕ) (more : 0 < b)
     (w : Sweeping plan lent table lengths count b kept found) where
   next : suc (b - 1) ≡ b
   next = omega arith
 
-  cheap : (body : Body) → Planned body plan → body .count ≡ count → (b : ℕ) → block body b .cost ≤ 1000000
-  cheap body p e = cheap-all body plan p (λ b h. subst (λ (c : ℕ). c ≤ 1000000) (sym (of .planned .costs b (omega (arith, of .size)))) (of .cheap b))
+  module _ (body : Body) (cost : ℕ → ℕ → ℕ) (p : Planned body cost plan) (g : Sound body) (e : body .count ≡ count) where
+    range : Range (body .count) cost costLimit
+    range = range-of plan count of body cost p e
 
-  module _ (body : Body) (p : Planned body plan) (g : Sound body) (e : body .count ≡ count) where
-    down : Down body lent table lengths (suc (b - 1)) kept found
-    down = subst (λ (n : ℕ). Down body lent table lengths n kept found) (sym next) (w .rows body p g e)
+    down : Down body cost lent table lengths (suc (b - 1)) kept found
+    down = subst (λ (n : ℕ). Down body cost lent table lengths n kept found) (sym next) (w .rows body cost p g e)
 
     lengths-of : Lengths (body .count) (suc (b - 1)) lengths
     lengths-of = subst (λ (n : ℕ). Lengths n (suc (b - 1)) lengths) (sym e) (subst (λ (n : ℕ). Lengths count n lengths) (sym next) (w .sizes))
@@ -308,36 +292,38 @@ module _ (plan : List ℕ) (fits : (k : ℕ) → getD plan k 0 < 2 ^ 64) (count 
     inside : b - 1 < body .count
     inside = omega (arith, w .below)
 
-    row-here : leftFrom plan table lengths (b - 1) 1 (begunWith plan count (b - 1)) ≡ rowOf body (b - 1)
-    row-here =
-        ap (λ n. leftFrom plan table lengths (b - 1) 1 (begunWith plan n (b - 1))) (sym e)
-        ∙ turn-row body g plan fits p (cheap body p e) lent table lengths (b - 1) kept found inside lengths-of down
+    row-here : rowFrom plan count table lengths (b - 1) ≡ rowOf body cost (b - 1)
+    row-here = ap (λ n. rowFrom plan n table lengths (b - 1)) (sym e) ∙ turn-row body g cost range plan fits p lent table lengths (b - 1) kept found inside lengths-of down
 
-    ready-here : Ready plan table lengths (b - 1)
-    ready-here = turn-ready body g plan fits p (cheap body p e) lent table lengths (b - 1) kept found inside lengths-of down (omega (arith, w .same))
+    light-here : (way t i : ℕ) → i < getD lengths t 0 → costAt plan (b - 1) way + getD table (64 * t + i) noEntry .way .weight < 2 ^ 64
+    light-here = turn-light body g cost range plan fits p lent table lengths (b - 1) kept found inside lengths-of down
 
-  pub sweeping-ready : Ready plan table lengths (b - 1) × (320 * suc (b - 1) ≤ length table)
-  sweeping-ready = (ready-here (of .body) (of .planned) (of .sound) (of .size), omega (arith, w .same, w .below))
+    inside-here : (t i : ℕ) → i < getD lengths t 0 → 64 * t + i < length table
+    inside-here t i h = omega (arith, some-row body g cost range plan fits p lent table lengths (b - 1) kept found inside lengths-of down t i h .1, w .sizes .few t, w .same)
 
-  module _ (new news : List ℕ) (n : ℕ) (turned : Turned (leftFrom plan table lengths (b - 1) 1 (begunWith plan count (b - 1))) table new lengths news (b - 1) n) where
-    pub sweeping-more : n ≤ 64 → length new ≡ length table → Sweeping plan lent new news count (b - 1) (max kept n) n
+  pub sweeping-light : (way t i : ℕ) → i < getD lengths t 0 → costAt plan (b - 1) way + getD table (64 * t + i) noEntry .way .weight < 2 ^ 64
+  sweeping-light = light-here (of .body) (of .cost) (of .planned) (of .sound) (of .size)
+
+  pub sweeping-inside : (t i : ℕ) → i < getD lengths t 0 → 64 * t + i < length table
+  sweeping-inside = inside-here (of .body) (of .cost) (of .planned) (of .sound) (of .size)
+
+  pub count-few : count ≤ 64
+  count-few = omega (arith, of .sound .few, of .size)
+
+  module _ (new : List Entry) (n : ℕ) (turned : Turned (rowFrom plan count table lengths (b - 1)) table new (b - 1) n) where
+    pub sweeping-more : n ≤ 64 → length new ≡ length table → Sweeping plan lent new (set lengths (b - 1) n) count (b - 1) (max kept n) n
     sweeping-more few same = record {
-      rows = λ body p g e.
-          down-more body lent table lengths (b - 1) kept found (inside body p g e) (g .few) (omega arith) (w .same) (lengths-of body p g e) (down body p g e) new news n
-          (subst (λ (r : List (Key × Words)). Stored r table new lengths news (b - 1) n) (row-here body p g e) (turned .whole few));
-      sizes = subst (Lengths count (b - 1)) (sym (turned .whole few .lengths-is))
-          (lengths-more count (b - 1) n lengths (omega (arith, w .below)) (omega (arith, of .sound .few, of .size)) few (subst (λ (n : ℕ). Lengths count n lengths) (sym next) (w .sizes)));
+      rows = λ body cost p g e.
+          down-more body cost lent table lengths (b - 1) kept found (inside body cost p g e) (g .few) (omega arith) (w .same) (lengths-of body cost p g e) (down body cost p g e) new n
+          (subst (λ (r : List (Key × Words)). Stored r table new (b - 1) n) (row-here body cost p g e) (turned .whole few));
+      sizes = lengths-more count (b - 1) n lengths (omega (arith, w .below)) count-few few (subst (λ (n : ℕ). Lengths count n lengths) (sym next) (w .sizes));
       same = same ∙ w .same;
       below = omega (arith, w .below);
     }
 
-    pub sweeping-crowded : 64 < n → (body : Body) → Planned body plan → Sound body → body .count ≡ count → SweptAs body lent new (Crowded (b - 1))
-    sweeping-crowded over body p g e =
-        let (long, kept-table, kept-lengths) = parts (turned .over over) in
-        subst (λ (t : List ℕ). SweptAs body lent t (Crowded (b - 1))) (sym kept-table)
-        (swept-crowded body lent table lengths (b - 1) kept found
-        (down-over body lent table lengths (b - 1) kept found (inside body p g e) (g .few) (omega arith) (w .same) (lengths-of body p g e) (down body p g e)
-        (subst (λ (r : List (Key × Words)). 64 < length r) (row-here body p g e) long)) (down body p g e))
-      where
-        parts : {A B C : Type 0} → A × (B × C) → A × B × C
-        parts (a, (b, c)) = (a, b, c)
+    pub sweeping-crowded : 64 < n → (body : Body) (cost : ℕ → ℕ → ℕ) → Planned body cost plan → Sound body → body .count ≡ count → SweptAs body cost lent new (Crowded (b - 1))
+    sweeping-crowded over body cost p g e =
+        subst (λ (t : List Entry). SweptAs body cost lent t (Crowded (b - 1))) (sym (turned .over over .1))
+        (swept-crowded body cost lent table lengths (b - 1) kept found
+        (down-over body cost lent table lengths (b - 1) kept found (inside body cost p g e) (g .few) (omega arith) (w .same) (lengths-of body cost p g e) (down body cost p g e)
+        (subst (λ (r : List (Key × Words)). 64 < length r) (row-here body cost p g e) (turned .over over .0))) (down body cost p g e))

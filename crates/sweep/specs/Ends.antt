@@ -1,165 +1,344 @@
--- From the rows to the sweep's answer: each way out of the functions that answer, and with the counter's answer. Rests on SweepAnswer, SweepDrive and theory's
--- sweep-answer.
+-- From the rows to the sweep's answer: what the functions that answer do, and that it is what is owed (`ended`). Rests on Answer, Drive, plan's Prepared and theory's WalkWords.
 use mathlib.Core.Path.{_≡_, refl, sym, ap, ap₂, subst, _∙_}
+use mathlib.Core.Logic.{_⊎_, inl, inr}
 use mathlib.Core.Bool.{Bool, true, false, cond}
 use mathlib.Core.List.{List, [], _∷_, _++_}
 use mathlib.Core.Option.{Option, none, some}
-use Prim.Native.Nat.{ℕ, suc, _+_, _*_, _≤_, _<_}
+use Prim.Native.Nat.{ℕ, zero, suc, min, _+_, _*_, _≤_, _<_}
+use native.Mathlib.Nat.{zero-add}
 use native.Mathlib.Omega.{arith}
-use borrow.Author.Tests.{lt-ltb, le-ltb, eq-eqb, ne-eqb}
+use borrow.Author.Tests.{lt-ltb, le-ltb, eq-eqb, ne-eqb, ltb-true, ltb-false}
 use lib.Dec.{eqb, ltb}
-use lib.ListN.{length, getD, take, drop}
+use lib.ListN.{length, getD, drop}
 use Rattle.laws.specs.Terms.{Mem, heavier}
-use Rattle.laws.specs.Orders.{heaviest}
+use Rattle.laws.specs.Tests.{split}
 use Rattle.form.specs.declared.Body.{Body}
-use Rattle.form.specs.declared.Verdict.the-variants.{Accepted, Refused as Unread}
-use Rattle.form.specs.Form.{judge, bodyOf}
+use Rattle.form.specs.Form.{bodyOf}
 use Rattle.form.specs.Conflict.{Sound, conflicts}
-use Rattle.counter.specs.declared.Counted.{Counted}
-use Rattle.counter.specs.declared.Counted.the-variants.{Iterations, Refused as NoCount}
-use Rattle.theory.specs.Route.{Path, stepCost, bestRoute, routeBytes}
-use Rattle.theory.specs.Row.{Key, leftBy, found, row, longest, kept, crowded}
+use Rattle.roundtrip.specs.Sound.{sound}
+use Rattle.theory.specs.Route.{Path, Side, dearest, routeOn, boundOf, stepCost, routeBytes}
+use Rattle.theory.specs.Row.{leftBy, found, kept, crowded}
 use Rattle.theory.specs.Edges.{noEdges}
-use Rattle.theory.specs.SweepWords.{Words, wordsOf, wordsFound, row-zero-words, entry-fits}
-use Rattle.theory.specs.Listing.{listing}
+use Rattle.theory.specs.Row.{Key}
+use Rattle.theory.specs.SweepWords.{Words, wordsOf, wordsFound, row-zero-words}
 use Rattle.theory.specs.WalkWords.{bytes-words}
+use Rattle.theory.specs.Best.{best-leads}
+use Rattle.theory.specs.Plan.{Planned, PlanOf, costLimit}
+use Rattle.plan.specs.declared.Prepared.{Prepared}
+use Rattle.plan.specs.declared.Way.{Way}
+use Rattle.plan.specs.Prepared.{Start, PreparedOf, refusal-owed, start-owed, start-plan, start-few}
+use Rattle.plan.specs.Prepared.PreparedOf.{refused as Refuses, ready as Starts}
+use Rattle.plan.specs.RouteWords.{bytesOf}
+use Rattle.rows.specs.declared.Entry.{Entry}
+use Rattle.rows.specs.Entries.{entryAt}
+use Rattle.rows.specs.Structs.{tupleOf, structAt, structOf}
+use Rattle.rows.specs.Begun.{zeroRow, zero-at}
 use Rattle.sweep.specs.declared.Swept.{Swept}
 use Rattle.sweep.specs.declared.Swept.the-variants.{Crowded, Rows}
 use Rattle.sweep.specs.declared.SweepAnswer.{SweepAnswer}
 use Rattle.sweep.specs.declared.SweepAnswer.the-variants.{Routed, Refused}
-use Rattle.plan.specs.RouteWords.{bytesOf}
-use Rattle.plan.specs.Owed.{Owed}
-use Rattle.plan.specs.Owed.Owed.{no-form}
-use Rattle.plan.specs.Accepted.{CounterOwed, owed-refused, owed-counted}
-use Rattle.theory.specs.Plan.{Planned}
-use Rattle.sweep.specs.Entries.{entryAt, entriesFrom, entries-length}
-use Rattle.sweep.specs.Turn.{rowOf}
-use Rattle.sweep.specs.Terms.{tableWith}
-use Rattle.sweep.specs.Drive.{longestRow, highestCrowd, sweptOf, completeFrom, SweptAs, entry-mem}
-use Rattle.theory.specs.Plan.{PlanOf}
-use Rattle.theory.specs.Best.{best-leads}
-use Rattle.plan.specs.Accepted.{product}
-use Rattle.sweep.specs.Answer.{Values, said, Outcome, outcomeOf, refused, rowsOf, routed, swept, sweepOutcome, SweepOwed}
+use Rattle.sweep.specs.Answer as Answer
+use Rattle.sweep.specs.Answer.{noEntry, Outcome, outcomeOf, refused, tableWith, rowsOn, routed, swept, sweepOutcome, SweepOwed}
+use Rattle.sweep.specs.Table.{entriesIn, in-length, in-mem, fetched, fetched-none, fetched-at}
+use Rattle.sweep.specs.Turn.{rowOf, range-of}
+use Rattle.sweep.specs.Drive.{heaviestBy, longestRow, highestCrowd, sweptOf, completeFrom, SweptAs, weight-few}
+
+-- ---- what the functions that answer do
 
 -- what row 0 comes to: its one entry's weight and route, or 43
-abbrev pub answerOf : (count iterations kept found : ℕ) → (table route : List ℕ) → SweepAnswer × List ℕ
-answerOf count iterations kept found table route = cond (eqb found 0) (Refused 43 0, route)
-    (Routed iterations (getD table 2 0) (iterations * getD table 2 0) kept, bytesOf count (getD table 3 0) (getD table 4 0) ++ drop count route)
+abbrev pub answerOf : (count iterations kept found : ℕ) → Way → (route : List ℕ) → SweepAnswer × List ℕ
+answerOf count iterations kept found way route = cond (eqb found 0) (Refused 43 0, route)
+    (Routed iterations (way .weight) (boundOf iterations (way .weight)) kept, bytesOf count (way .jumped) (way .fallen) ++ drop count route)
 
-module _ (count iterations kept found : ℕ) (table route : List ℕ) where
-  pub answer-none : {r : SweepAnswer} → found ≡ 0 → r ≡ Refused 43 0 → _≡_ {A = SweepAnswer × List ℕ} (r, route) (answerOf count iterations kept found table route)
+module _ (count iterations kept found : ℕ) (way : Way) (route : List ℕ) where
+  pub answer-none : {r : SweepAnswer} → found ≡ 0 → r ≡ Refused 43 0 → _≡_ {A = SweepAnswer × List ℕ} (r, route) (answerOf count iterations kept found way route)
   answer-none e p = rw (eq-eqb found 0 e) (λ i. (p i, route))
 
-  pub answer-some : {held : List ℕ} → (found ≡ 0 → ⊥) → held ≡ bytesOf count (getD table 3 0) (getD table 4 0) ++ drop count route
-      → _≡_ {A = SweepAnswer × List ℕ} (Routed iterations (getD table 2 0) (iterations * getD table 2 0) kept, held) (answerOf count iterations kept found table route)
-  answer-some d p = rw (ne-eqb found 0 d) (λ i. (Routed iterations (getD table 2 0) (iterations * getD table 2 0) kept, p i))
+  pub answer-some : {held : List ℕ} → (found ≡ 0 → ⊥) → held ≡ bytesOf count (way .jumped) (way .fallen) ++ drop count route
+      → _≡_ {A = SweepAnswer × List ℕ} (Routed iterations (way .weight) (boundOf iterations (way .weight)) kept, held) (answerOf count iterations kept found way route)
+  answer-some d p = rw (ne-eqb found 0 d) (λ i. (Routed iterations (way .weight) (boundOf iterations (way .weight)) kept, p i))
 
-module _ (body : Body) (g : Sound body) (n : ℕ) (size : body .count ≡ n) (route table : List ℕ) (iterations : ℕ) where
-  pub short-route : length route < n → refused route table 42 n ≡ sweepOutcome body route table iterations
-  short-route h = ap (refused route table 42) (sym size) ∙ rw (lt-ltb (length route) (body .count) (omega arith))
+-- how many blocks are swept
+abbrev pub allowedOf : (count entries bytes : ℕ) → ℕ
+allowedOf count entries bytes = cond (ltb bytes count) 0 (cond (ltb entries (64 * count)) 0 count)
 
-  pub short-table : n ≤ length route → length table < 320 * n → refused route table 44 (64 * n) ≡ sweepOutcome body route table iterations
-  short-table l h =
-      ap (λ m. refused route table 44 (64 * m)) (sym size)
-      ∙ rw (le-ltb (length route) (body .count) (omega arith), lt-ltb (length table) (5 * (64 * body .count)) (omega arith))
+-- row 0's way
+abbrev pub wayOf : (first : List ℕ) → Way
+wayOf first = structAt first 0 .way
 
-  module _ (l : n ≤ length route) (k : 320 * n ≤ length table) where
-    enough : (o : Option ℕ) → crowded body (stepCost body) heavier ≡ o → sweepOutcome body route table iterations ≡ swept body route table iterations o
-    enough o e = rw (le-ltb (length route) (body .count) (omega arith), le-ltb (length table) (5 * (64 * body .count)) (omega arith), e)
+abbrev pub settled : (count iterations : ℕ) → Swept → (first route : List ℕ) → SweepAnswer × List ℕ
+settled count iterations (Crowded b) first route = (Refused 40 b, route)
+settled count iterations (Rows kept found) first route = answerOf count iterations kept found (wayOf first) route
 
-    crowd-is : highestCrowd body (body .count) ≡ crowded body (stepCost body) heavier
-    unfolding crowded
-    crowd-is = refl
+abbrev pub concluded : Prepared → (entries : ℕ) → Swept → (first route : List ℕ) → SweepAnswer × List ℕ
+concluded ready entries swept first route =
+    cond (ltb 0 (ready .number)) (Refused (ready .number) (ready .place), route)
+    (cond (ltb (length route) (ready .count)) (Refused 42 (ready .count), route)
+    (cond (ltb entries (64 * ready .count)) (Refused 44 (64 * ready .count), route) (settled (ready .count) (ready .iterations) swept first route)))
 
-    kept-is : longestRow body (body .count) ≡ kept body (stepCost body) heavier
+-- the weight in row 0 keeps to the limit
+abbrev pub WeightFew : Swept → (first : List ℕ) → Type 0
+WeightFew swept first = (kept found : ℕ) → swept ≡ Rows kept found → 0 < found → wayOf first .weight ≤ costLimit
+
+-- `conclude`'s ways out
+module _ (ready : Prepared) (entries : ℕ) (swept : Swept) (first route : List ℕ) where
+  abbrev Concluded : SweepAnswer × List ℕ → Type 0
+  Concluded x = x ≡ concluded ready entries swept first route
+
+  pub unstarted : {r : SweepAnswer} → 0 < ready .number → r ≡ Refused (ready .number) (ready .place) → Concluded (r, route)
+  unstarted h e = rw (lt-ltb 0 (ready .number) h) (λ t. (e t, route))
+
+  module _ (z : ready .number ≤ 0) where
+    pub few-bytes : {r : SweepAnswer} → length route < ready .count → r ≡ Refused 42 (ready .count) → Concluded (r, route)
+    few-bytes h e = rw (le-ltb 0 (ready .number) z, lt-ltb (length route) (ready .count) h) (λ t. (e t, route))
+
+    module _ (l : ready .count ≤ length route) where
+      pub few-entries : {r : SweepAnswer} → entries < 64 * ready .count → r ≡ Refused 44 (64 * ready .count) → Concluded (r, route)
+      few-entries h e = rw (le-ltb 0 (ready .number) z, le-ltb (length route) (ready .count) l, lt-ltb entries (64 * ready .count) h) (λ t. (e t, route))
+
+      module _ (h : 64 * ready .count ≤ entries) where
+        pub crowd : {r : SweepAnswer} {b : ℕ} → swept ≡ Crowded b → r ≡ Refused 40 b → Concluded (r, route)
+        crowd q e = rw (le-ltb 0 (ready .number) z, le-ltb (length route) (ready .count) l, le-ltb entries (64 * ready .count) h, q) (λ t. (e t, route))
+
+        pub all-rows : {x : SweepAnswer × List ℕ} {kept found : ℕ} → swept ≡ Rows kept found → x ≡ answerOf (ready .count) (ready .iterations) kept found (wayOf first) route → Concluded x
+        all-rows q e = rw (le-ltb 0 (ready .number) z, le-ltb (length route) (ready .count) l, le-ltb entries (64 * ready .count) h, q) e
+
+-- ---- with all rows, or up to the crowded one
+
+module _ (body : Body) (g : Sound body) (cost : ℕ → ℕ → ℕ) (n : ℕ) (size : body .count ≡ n) (route : List ℕ) (lent table : List Entry) (iterations : ℕ) where
+  abbrev side : Side
+  side = heaviestBy cost
+
+  abbrev Made : SweepAnswer × List ℕ → Option ℕ → Type 0
+  Made x o = outcomeOf (x .0) (x .1) table ≡ swept body side route lent iterations o
+
+  over : (b : ℕ) → SweptAs body cost lent table (Crowded b) → Made (Refused 40 b, route) (highestCrowd body cost (body .count))
+  over b s = by (highestCrowd body cost (body .count)) (s .answer-is) (s .table-is)
+    where
+      by : (o : Option ℕ) → Crowded b ≡ sweptOf body cost o → table ≡ tableWith (rowsOn body side) (completeFrom o) (body .count) lent → Made (Refused 40 b, route) o
+      by none a t = let z : _≡_ {A = ℕ} 0 1 = cc in absurd (omega arith)
+      by (some c) a t = let d : b ≡ c = cc in ap₂ (λ c t. outcomeOf (Refused 40 c) route t) d t
+
+  module _ (keep find : ℕ) (s : SweptAs body cost lent table (Rows keep find)) where
+    row-zero : entriesIn table 0 find ≡ found noEdges (wordsFound body (routeOn body side))
+    row-zero = s .first keep find refl ∙ row-zero-words body (conflicts body) cost heavier
+
+    uncrowded : (highestCrowd body cost (body .count) ≡ none) × (keep ≡ longestRow body cost (body .count))
+    uncrowded = by (highestCrowd body cost (body .count)) refl (s .answer-is)
+      where
+        by : (o : Option ℕ) → highestCrowd body cost (body .count) ≡ o → Rows keep find ≡ sweptOf body cost o → (highestCrowd body cost (body .count) ≡ none) × (keep ≡ longestRow body cost (body .count))
+        by none e a = (e, cc)
+        by (some c) e a = let z : _≡_ {A = ℕ} 0 1 = cc in absurd (omega arith)
+
+    table-is : table ≡ tableWith (rowsOn body side) 0 (body .count) lent
+    table-is = s .table-is ∙ ap (λ o. tableWith (rowsOn body side) (completeFrom o) (body .count) lent) (uncrowded .0)
+
+    kept-is : keep ≡ kept body cost heavier
     unfolding kept
-    kept-is = refl
+    kept-is = uncrowded .1
 
-    module _ (new : List ℕ) where
-      pub over : (b : ℕ) → SweptAs body table new (Crowded b) → outcomeOf (Refused 40 b) route new ≡ sweepOutcome body route table iterations
-      over b s = by (highestCrowd body (body .count)) refl (s .answer-is) (s .table-is)
+    -- the route of row 0
+    no-route : routeOn body side ≡ none → find ≡ 0
+    no-route e = sym (in-length table 0 find) ∙ ap length (row-zero ∙ ap (λ o. found noEdges (wordsFound body o)) e)
+
+    one-route : (v : ℕ × Path) → routeOn body side ≡ some v → (find ≡ 1) × (tupleOf (getD table 0 noEntry) ≡ (noEdges, wordsOf body v))
+    unfolding entriesIn
+    one-route v e =
+        let r : entriesIn table 0 find ≡ (noEdges, wordsOf body v) ∷ [] = row-zero ∙ ap (λ o. found noEdges (wordsFound body o)) e in
+        let one : find ≡ 1 = sym (in-length table 0 find) ∙ ap length r in
+        let same : tupleOf (getD table 0 noEntry) ∷ [] ≡ (noEdges, wordsOf body v) ∷ [] = ap (entriesIn table 0) (sym one) ∙ r in
+        (one, cc)
+
+    answered-by : (o : Option (ℕ × Path)) → routeOn body side ≡ o
+        → outcomeOf (answerOf n iterations keep find (getD table 0 noEntry .way) route .0) (answerOf n iterations keep find (getD table 0 noEntry .way) route .1) table ≡ routed body side route lent iterations o
+    unfolding bytesOf
+    answered-by none q =
+        ap₂ (λ (f : ℕ) (t : List Entry). outcomeOf (answerOf n iterations keep f (getD table 0 noEntry .way) route .0) (answerOf n iterations keep f (getD table 0 noEntry .way) route .1) t) (no-route q) table-is
+    answered-by (some v) q =
+        let (one, first) = one-route v q in
+        let words : answerOf n iterations keep find (getD table 0 noEntry .way) route
+        ≡ (Routed iterations (v .0) (boundOf iterations (v .0)) (kept body cost heavier), bytesOf (body .count) (leftBy body 1 (v .1)) (leftBy body 2 (v .1)) ++ drop (body .count) route) =
+        ap (λ f. answerOf n iterations keep f (getD table 0 noEntry .way) route) one
+        ∙ (λ i. (Routed iterations (first i .1 .0) (boundOf iterations (first i .1 .0)) (kept-is i), bytesOf (sym size i) (first i .1 .1 .0) (first i .1 .1 .1) ++ drop (sym size i) route)) in
+        ap₂ (λ (y : SweepAnswer × List ℕ) (t : List Entry). outcomeOf (y .0) (y .1) t) words table-is
+        ∙ ap (λ b. outcomeOf (Routed iterations (v .0) (boundOf iterations (v .0)) (kept body cost heavier)) (b ++ drop (body .count) route) (tableWith (rowsOn body side) 0 (body .count) lent))
+        (sym (bytes-words body (g .onward) (v .1) (best-leads body cost heavier v q .0)))
+
+    answered : Made (answerOf n iterations keep find (getD table 0 noEntry .way) route) (highestCrowd body cost (body .count))
+    answered = answered-by (routeOn body side) refl ∙ ap (swept body side route lent iterations) (sym (uncrowded .0))
+
+-- ---- the whole sweep, of any bytes
+
+-- what `sweep_rows` owes
+abbrev pub Rowed : (plan : List ℕ) (count : ℕ) (lent table : List Entry) → Swept → Type 0
+Rowed plan count lent table r =
+    ((body : Body) (cost : ℕ → ℕ → ℕ) → Planned body cost plan → Sound body → body .count ≡ count → SweptAs body cost lent table r) × (count ≡ 0 → table ≡ lent)
+
+-- a refusal, or a plan of some blocks
+data Known (form : List ℕ) (ready : Prepared) : Type 0 where
+  not-ready : 0 < ready .number → ready .count ≡ 0 → Known form ready
+  is-ready : ready .number ≡ 0 → Start form (ready .count) (ready .iterations) (ready .plan) → 0 < ready .count → Known form ready
+
+known : (form : List ℕ) (ready : Prepared) → PreparedOf form ready → Known form ready
+known form ready (Refuses r d e) = not-ready (positive (ready .number) d) e
+  where
+    positive : (n : ℕ) → (n ≡ 0 → ⊥) → 0 < n
+    positive n d = omega arith
+known form ready (Starts z s) = let of = start-plan form (ready .count) (ready .iterations) (ready .plan) s in is-ready z s (omega (arith, of .sound .some, of .size))
+
+module _ (form : List ℕ) (ready : Prepared) (is : PreparedOf form ready) (lent : List Entry) (route : List ℕ) where
+  abbrev count : ℕ
+  count = ready .count
+
+  abbrev plan-of : Start form (ready .count) (ready .iterations) (ready .plan) → PlanOf (ready .plan) (ready .count)
+  plan-of s = start-plan form (ready .count) (ready .iterations) (ready .plan) s
+
+  pub count-few : count ≤ 64
+  count-few = by (known form ready is)
+    where
+      by : Known form ready → count ≤ 64
+      by (not-ready h e) = omega arith
+      by (is-ready z s h) = omega (arith, plan-of s .sound .few, plan-of s .size)
+
+  pub iterations-few : ready .number ≡ 0 → ready .iterations < 4294967296
+  iterations-few e = by (known form ready is)
+    where
+      by : Known form ready → ready .iterations < 4294967296
+      by (not-ready h z) = absurd (omega arith)
+      by (is-ready z s h) = start-few form (ready .count) (ready .iterations) (ready .plan) s
+
+  module _ (b : ℕ) (b-is : b ≡ allowedOf count (length lent) (length route)) where
+    -- none, or all of them with memory enough
+    data Blocks : Type 0 where
+      no-block : b ≡ 0 → Blocks
+      all-blocks : b ≡ count → count ≤ length route → 64 * count ≤ length lent → Blocks
+
+    blocks : Blocks
+    blocks = by (ltb (length route) count) (ltb (length lent) (64 * count)) refl refl
+      where
+        by : (c d : Bool) → ltb (length route) count ≡ c → ltb (length lent) (64 * count) ≡ d → Blocks
+        by true d p q = no-block (b-is ∙ ap (λ c. cond c 0 (cond (ltb (length lent) (64 * count)) 0 count)) p)
+        by false true p q = no-block (b-is ∙ ap₂ (λ c d. cond c 0 (cond d 0 count)) p q)
+        by false false p q = all-blocks (b-is ∙ ap₂ (λ c d. cond c 0 (cond d 0 count)) p q) (ltb-false (length route) count p) (ltb-false (length lent) (64 * count) q)
+
+    -- what `sweep_rows` asks
+    pub rows-asked : (0 < b → PlanOf (ready .plan) b) × (64 * b ≤ length lent)
+    rows-asked = by blocks (known form ready is)
+      where
+        never : b ≡ 0 → 0 < b → ⊥
+        never e h = omega arith
+
+        by : Blocks → Known form ready → (0 < b → PlanOf (ready .plan) b) × (64 * b ≤ length lent)
+        by (no-block e) k = (λ h. absurd (never e h), omega arith)
+        by (all-blocks e l m) (not-ready h z) = (λ h. absurd (never (e ∙ z) h), omega arith)
+        by (all-blocks e l m) (is-ready z s h) = (λ h. subst (PlanOf (ready .plan)) (sym e) (plan-of s), omega arith)
+
+    module _ (table : List Entry) (swept : Swept) (size : length table ≡ length lent) (rowed : Rowed (ready .plan) b lent table swept) (first : List ℕ) (first-is : first ≡ fetched table 0 (min b 1)) where
+      -- what `fetch` asks
+      pub first-asked : (min b 1 ≤ 64) × ((k : ℕ) → k < min b 1 → 0 + k < length table)
+      first-asked = (omega arith, λ k h. omega (arith, rows-asked .1))
+
+      -- row 0's entry, where there is one
+      entry : 0 < b → entryAt first 0 ≡ tupleOf (getD table 0 noEntry)
+      entry h = ap (λ l. entryAt l 0) first-is ∙ fetched-at table 0 (min b 1) (omega arith) 0 (omega arith) ∙ ap (λ i. tupleOf (getD table i noEntry)) (zero-add 0)
+
+      -- what `conclude` asks
+      pub light : WeightFew swept first
+      light keep find e h = by blocks (known form ready is)
         where
-          by : (o : Option ℕ) → highestCrowd body (body .count) ≡ o → Crowded b ≡ sweptOf body o → new ≡ tableWith (rowsOf body) (completeFrom o) (body .count) table
-              → outcomeOf (Refused 40 b) route new ≡ sweepOutcome body route table iterations
-          by none e a t = let z : _≡_ {A = ℕ} 0 1 = cc in absurd (omega arith)
-          by (some c) e a t =
-              let d : b ≡ c = cc in
-              ap₂ (λ c t. outcomeOf (Refused 40 c) route t) d t ∙ sym (enough (some c) (sym crowd-is ∙ e))
+          no-weight : b ≡ 0 → wayOf first .weight ≤ costLimit
+          no-weight z = subst (λ (l : List ℕ). wayOf l .weight ≤ costLimit) (sym (first-is ∙ ap (λ m. fetched table 0 (min m 1)) z ∙ sym (fetched-none table 0))) (omega (arith, zero-at 2))
 
-      -- ---- with all rows
+          by : Blocks → Known form ready → wayOf first .weight ≤ costLimit
+          by (no-block z) k = no-weight z
+          by (all-blocks p l m) (not-ready n z) = no-weight (p ∙ z)
+          by (all-blocks p l m) (is-ready z s any) =
+              let of = plan-of s in
+              let body = of .body in
+              let row = rowed .0 body (of .cost) (of .planned) (of .sound) (of .size ∙ sym p) in
+              let m : Mem (tupleOf (getD table 0 noEntry)) (rowOf body (of .cost) 0) =
+              subst (Mem (tupleOf (getD table 0 noEntry))) (row .first keep find e) (subst (λ (i : ℕ). Mem (tupleOf (getD table i noEntry)) (entriesIn table 0 find)) (zero-add 0) (in-mem table 0 find 0 h)) in
+              subst (λ (x : Key × Words). x .1 .0 ≤ costLimit) (sym (entry (omega arith))) (weight-few body (of .sound) (of .cost) (of .range) 0 (of .sound .some) (tupleOf (getD table 0 noEntry)) m)
 
-      module _ (keep find : ℕ) (s : SweptAs body table new (Rows keep find)) where
-        row-zero : entriesFrom new 0 find ≡ found noEdges (wordsFound body (bestRoute body (stepCost body) heavier))
-        row-zero = s .first keep find refl ∙ row-zero-words body (conflicts body) (stepCost body) heavier
+      -- an answer with the route's bytes is what is owed
+      abbrev Owes : SweepAnswer × List ℕ → Type 0
+      Owes x = SweepOwed form route lent (outcomeOf (x .0) (x .1) table)
 
-        uncrowded : (highestCrowd body (body .count) ≡ none) × (keep ≡ longestRow body (body .count))
-        uncrowded = by (highestCrowd body (body .count)) refl (s .answer-is)
-          where
-            by : (o : Option ℕ) → highestCrowd body (body .count) ≡ o → Rows keep find ≡ sweptOf body o → (highestCrowd body (body .count) ≡ none) × (keep ≡ longestRow body (body .count))
-            by none e a = (e, cc)
-            by (some c) e a = let z : _≡_ {A = ℕ} 0 1 = cc in absurd (omega arith)
+      module _ (z : ready .number ≡ 0) (s : Start form (ready .count) (ready .iterations) (ready .plan)) (any : 0 < count) where
+        abbrev body : Body
+        body = bodyOf form
 
-        table-is : new ≡ tableWith (rowsOf body) 0 (body .count) table
-        table-is = s .table-is ∙ ap (λ o. tableWith (rowsOf body) (completeFrom o) (body .count) table) (uncrowded .0)
+        abbrev with : ℕ → Outcome
+        with = sweepOutcome body (dearest body) route lent
 
-        -- the route of row 0
-        no-route : bestRoute body (stepCost body) heavier ≡ none → find ≡ 0
-        no-route e = sym (entries-length new 0 find) ∙ ap length (row-zero ∙ ap (λ o. found noEdges (wordsFound body o)) e)
+        owes : (x : SweepAnswer × List ℕ) → outcomeOf (x .0) (x .1) table ≡ with (ready .iterations) → Owes x
+        owes x e = start-owed form (ready .count) (ready .iterations) (ready .plan) s (refused route lent) with (outcomeOf (x .0) (x .1) table) e
 
-        one-route : (v : ℕ × Path) → bestRoute body (stepCost body) heavier ≡ some v → (find ≡ 1) × (entryAt new 0 ≡ (noEdges, wordsOf body v))
-        unfolding entriesFrom
-        one-route v e =
-            let r : entriesFrom new 0 find ≡ (noEdges, wordsOf body v) ∷ [] = row-zero ∙ ap (λ o. found noEdges (wordsFound body o)) e in
-            let one : find ≡ 1 = sym (entries-length new 0 find) ∙ ap length r in
-            let same : entryAt new 0 ∷ [] ≡ (noEdges, wordsOf body v) ∷ [] = ap (entriesFrom new 0) (sym one) ∙ r in
-            (one, cc)
+        abbrev cost : ℕ → ℕ → ℕ
+        cost = stepCost body
 
-        settled : (o : Option (ℕ × Path)) → bestRoute body (stepCost body) heavier ≡ o → sweepOutcome body route table iterations ≡ routed body route table iterations o
-        settled o e = enough none (sym crowd-is ∙ uncrowded .0) ∙ ap (routed body route table iterations) e
+        crowd-is : highestCrowd body cost (body .count) ≡ crowded body cost heavier
+        unfolding crowded
+        crowd-is = refl
 
-        answered-by : (o : Option (ℕ × Path)) → bestRoute body (stepCost body) heavier ≡ o → (x : SweepAnswer × List ℕ) → x ≡ answerOf n iterations keep find new route
-            → outcomeOf (x .0) (x .1) new ≡ sweepOutcome body route table iterations
-        unfolding bytesOf
-        answered-by none q x e =
-            ap₂ (λ (y : SweepAnswer × List ℕ) (t : List ℕ). outcomeOf (y .0) (y .1) t) (e ∙ ap (λ f. answerOf n iterations keep f new route) (no-route q)) table-is
-            ∙ sym (settled none q)
-        answered-by (some v) q x e =
-            let (one, first) = one-route v q in
-            let words : answerOf n iterations keep find new route
-            ≡ (Routed iterations (v .0) (iterations * v .0) (kept body (stepCost body) heavier), bytesOf (body .count) (leftBy body 1 (v .1)) (leftBy body 2 (v .1)) ++ drop (body .count) route) =
-            ap (λ f. answerOf n iterations keep f new route) one
-            ∙ (λ i. (Routed iterations (first i .1 .0) (iterations * first i .1 .0) ((uncrowded .1 ∙ kept-is) i), bytesOf (sym size i) (first i .1 .1 .0) (first i .1 .1 .1) ++ drop (sym size i) route)) in
-            ap₂ (λ (y : SweepAnswer × List ℕ) (t : List ℕ). outcomeOf (y .0) (y .1) t) (e ∙ words) table-is
-            ∙ ap (λ b. outcomeOf (Routed iterations (v .0) (iterations * v .0) (kept body (stepCost body) heavier)) (b ++ drop (body .count) route) (tableWith (rowsOf body) 0 (body .count) table))
-            (sym (bytes-words body (g .onward) (v .1) (best-leads body (stepCost body) heavier v q .0)))
-            ∙ sym (settled (some v) q)
+        short-route : b ≡ 0 → length route < count → Owes (Refused 42 count, route)
+        short-route e h = owes (Refused 42 count, route)
+            (ap₂ (λ (n : ℕ) (t : List Entry). outcomeOf (Refused 42 n) route t) (sym (s .size)) (rowed .1 e) ∙ rw (lt-ltb (length route) (body .count) (omega (arith, s .size))))
 
-        pub answered : (answer : SweepAnswer) (held : List ℕ) → (answer, held) ≡ answerOf n iterations keep find new route → outcomeOf answer held new ≡ sweepOutcome body route table iterations
-        answered answer held e = answered-by (bestRoute body (stepCost body) heavier) refl (answer, held) e
+        short-table : b ≡ 0 → count ≤ length route → length lent < 64 * count → Owes (Refused 44 (64 * count), route)
+        short-table e l h = owes (Refused 44 (64 * count), route)
+            (ap₂ (λ (n : ℕ) (t : List Entry). outcomeOf (Refused 44 (64 * n)) route t) (sym (s .size)) (rowed .1 e)
+            ∙ rw (le-ltb (length route) (body .count) (omega (arith, s .size)), lt-ltb (length lent) (64 * body .count) (omega (arith, s .size))))
 
--- the weight in row 0: 64 blocks of 1,000,000 at most
-pub weight-few : (plan : List ℕ) (count : ℕ) → PlanOf plan count → (lent table : List ℕ) (keep find : ℕ) → ((body : Body) → Planned body plan → Sound body → body .count ≡ count → SweptAs body lent table (Rows keep find))
-    → 0 < find → getD table 2 0 ≤ 64000000
-weight-few plan count p lent table keep find s h =
-    let body = p .body in
-    let m : Mem (entryAt table 0) (rowOf body 0) = subst (Mem (entryAt table 0)) (s body (p .planned) (p .sound) (p .size) .first keep find refl) (entry-mem table 0 find 0 h) in
-    let f = entry-fits body (p .sound .onward) (conflicts body) (listing body (p .sound .onward)) (stepCost body) 1000000 (λ b way. p .cheap b) heavier heaviest 0 (p .sound .some) (entryAt table 0) m in
-    omega (arith, f .weighs, p .sound .few)
+        module _ (full : b ≡ count) (l : count ≤ length route) (m : 64 * count ≤ length lent) where
+          whole : (x : SweepAnswer × List ℕ) → Made body (sound form (s .accepted)) cost count (s .size) route lent table (ready .iterations) x (highestCrowd body cost (body .count)) → Owes x
+          whole x e = owes x
+              (e ∙ ap (λ o. Answer.swept body (dearest body) route lent (ready .iterations) o) crowd-is
+              ∙ sym (rw (le-ltb (length route) (body .count) (omega (arith, s .size)), le-ltb (length lent) (64 * body .count) (omega (arith, s .size))) refl))
 
--- ---- with the counter's answer
+          same-way : wayOf first ≡ getD table 0 noEntry .way
+          same-way = ap (λ (e : Key × Words). structOf e .way) (entry (omega arith))
 
-module _ (form : List ℕ) (route table : List ℕ) (a : judge form ≡ Accepted) (x : Counted) (o : CounterOwed (bodyOf form .counter) x) where
-  pub without-count : {number place : ℕ} {r : SweepAnswer} → x ≡ NoCount number place → r ≡ Refused number place → SweepOwed form route table (outcomeOf r route table)
-  without-count {number} {place} e f =
-      subst (λ (y : SweepAnswer). SweepOwed form route table (outcomeOf y route table)) (sym f)
-      (owed-refused form (refused route table) (sweepOutcome (bodyOf form) route table) a number place (subst (CounterOwed (bodyOf form .counter)) e o))
+          by-rows : (r : Swept) → SweptAs body cost lent table r → Owes (settled count (ready .iterations) r first route)
+          by-rows (Crowded c) w = whole (Refused 40 c, route) (over body (sound form (s .accepted)) cost count (s .size) route lent table (ready .iterations) c w)
+          by-rows (Rows keep find) w =
+              subst (λ (way : Way). Owes (answerOf count (ready .iterations) keep find way route)) (sym same-way)
+              (whole (answerOf count (ready .iterations) keep find (getD table 0 noEntry .way) route) (answered body (sound form (s .accepted)) cost count (s .size) route lent table (ready .iterations) keep find w))
 
-  pub with-count : {k : ℕ} → x ≡ Iterations k → (y : Outcome) → y ≡ sweepOutcome (bodyOf form) route table k → SweepOwed form route table y
-  with-count {k} e y f =
-      subst (SweepOwed form route table) (sym f)
-      (owed-counted form (refused route table) (sweepOutcome (bodyOf form) route table) a k (subst (CounterOwed (bodyOf form .counter)) e o))
+          with-rows : Owes (settled count (ready .iterations) swept first route)
+          with-rows = by-rows swept (rowed .0 body cost (s .planned) (sound form (s .accepted)) (s .size ∙ sym full))
 
--- ---- a form that the reader refuses
+      pub ended : (answer : SweepAnswer) (held : List ℕ) → (answer, held) ≡ concluded ready (length table) swept first route → SweepOwed form route lent (outcomeOf answer held table)
+      ended answer held e = subst Owes (sym e) (by is)
+        where
+          nothing : count ≡ 0 → b ≡ 0
+          nothing z = b-is ∙ ap (λ n. allowedOf n (length lent) (length route)) z ∙ zeros (ltb (length route) 0) (ltb (length lent) (64 * 0))
+            where
+              zeros : (c d : Bool) → _≡_ {A = ℕ} (cond c 0 (cond d 0 0)) 0
+              zeros true d = refl
+              zeros false true = refl
+              zeros false false = refl
 
-pub unread : (form : List ℕ) (route table : List ℕ) {number place : ℕ} {r : SweepAnswer} → judge form ≡ Unread number place → r ≡ Refused number place → SweepOwed form route table (outcomeOf r route table)
-unread form route table {number} {place} j e = no-form number place j (ap (λ (x : SweepAnswer). outcomeOf x route table) e)
+          by-memory : (z : ready .number ≡ 0) (s : Start form (ready .count) (ready .iterations) (ready .plan)) (any : 0 < count) (c d : Bool) → ltb (length route) count ≡ c → ltb (length table) (64 * count) ≡ d
+              → Owes (cond c (Refused 42 count, route) (cond d (Refused 44 (64 * count), route) (settled count (ready .iterations) swept first route)))
+          by-memory z s any true d u v = short-route z s any (b-is ∙ ap (λ c. cond c 0 (cond (ltb (length lent) (64 * count)) 0 count)) u) (ltb-true (length route) count u)
+          by-memory z s any false true u v =
+              let few : length lent < 64 * count = omega (arith, size, ltb-true (length table) (64 * count) v) in
+              short-table z s any (b-is ∙ ap₂ (λ c d. cond c 0 (cond d 0 count)) u (lt-ltb (length lent) (64 * count) few)) (ltb-false (length route) count u) few
+          by-memory z s any false false u v =
+              let enough : 64 * count ≤ length lent = omega (arith, size, ltb-false (length table) (64 * count) v) in
+              with-rows z s any (b-is ∙ ap₂ (λ c d. cond c 0 (cond d 0 count)) u (le-ltb (length lent) (64 * count) enough)) (ltb-false (length route) count u) enough
+
+          by : PreparedOf form ready → Owes (concluded ready (length table) swept first route)
+          by (Refuses r d z) =
+              subst (λ (c : Bool). Owes (cond c (Refused (ready .number) (ready .place), route) (cond (ltb (length route) count) (Refused 42 count, route)
+              (cond (ltb (length table) (64 * count)) (Refused 44 (64 * count), route) (settled count (ready .iterations) swept first route))))) (sym (lt-ltb 0 (ready .number) (positive (ready .number) d)))
+              (subst (λ (t : List Entry). SweepOwed form route lent (outcomeOf (Refused (ready .number) (ready .place)) route t)) (sym (rowed .1 (nothing z)))
+              (refusal-owed form (refused route lent) (sweepOutcome (bodyOf form) (dearest (bodyOf form)) route lent) (ready .number) (ready .place) r))
+            where
+              positive : (n : ℕ) → (n ≡ 0 → ⊥) → 0 < n
+              positive n d = omega arith
+          by (Starts z s) =
+              subst (λ (c : Bool). Owes (cond c (Refused (ready .number) (ready .place), route) (cond (ltb (length route) count) (Refused 42 count, route)
+              (cond (ltb (length table) (64 * count)) (Refused 44 (64 * count), route) (settled count (ready .iterations) swept first route))))) (sym (le-ltb 0 (ready .number) (omega arith)))
+              (by-memory z s (omega (arith, plan-of s .sound .some, plan-of s .size)) (ltb (length route) count) (ltb (length table) (64 * count)) refl refl)

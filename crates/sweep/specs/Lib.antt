@@ -1,11 +1,8 @@
--- The sweep. Trusted: Terms, Answer. Rows as flat words, a step in front of a tail by the plan, a row built, the table, the drive, the answer.
-pub mod Entries
-pub mod Steps
-pub mod Rows
-pub mod Turn
-pub mod Terms
-pub mod Table
-pub mod Down
-pub mod Drive
+-- The sweep. Trusted: Answer. The table of entries and rows in local memory (Table), one block's turn (Turn), the drive (Drive, and where its code stands: Driven), the answer
+-- (Ends).
 pub mod Answer
+pub mod Table
+pub mod Turn
+pub mod Drive
+pub mod Driven
 pub mod Ends

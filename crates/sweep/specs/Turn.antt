@@ -1,34 +1,42 @@
--- A row built on the words of a plan and a table is the row by definition, where the rows above it in the table are (`row-is`). Rests on SweepRows, SweepSteps and
--- theory's sweep-turn and entry-fits.
+-- One block's turn. A row made, on the words of a plan, of the rows of its targets is the row by definition (`row-is`); fetching those rows, making it and storing it is a turn
+-- (`turn-made`). Rests on Table, on rows' Rows, Steps and Begun, and on theory's sweep-turn and entry-fits.
 use mathlib.Core.Path.{_≡_, refl, sym, ap, ap₂, subst, _∙_}
 use mathlib.Core.Logic.{inl, inr}
 use mathlib.Core.Bool.{Bool, true, false, cond}
-use mathlib.Core.List.{List, [], _∷_, _++_, append-nil}
+use mathlib.Core.List.{List, [], _∷_, _++_, map, append-nil}
 use mathlib.Core.Option.{Option}
-use Prim.Native.Nat.{ℕ, suc, _+_, _*_, _-_, _^_, _≤_, _<_}
+use Prim.Native.Nat.{ℕ, zero, suc, _+_, _*_, _-_, _^_, _≤_, _<_}
 use native.Mathlib.Omega.{arith}
-use borrow.Author.Tests.{ltb-true, ltb-false}
+use borrow.Author.Tests.{eqb-true, lt-ltb, le-ltb, ltb-true, ltb-false}
 use lib.Dec.{eqb, ltb}
 use lib.ListN.{length, getD, List·getD-eq-default}
+use lib.Seq.{paste}
 use Rattle.laws.specs.Terms.{Mem, heavier}
 use Rattle.laws.specs.Tests.{split}
 use Rattle.laws.specs.Orders.{heaviest}
 use Rattle.laws.specs.Lists.{mem-left, mem-right}
 use Rattle.form.specs.declared.Body.{Body}
-use Rattle.form.specs.Conflict.{Sound, block, exits, conflicts}
-use Rattle.lower_laws.specs.Listed.{Way}
-use Rattle.theory.specs.Route.{stepCost}
+use Rattle.form.specs.Conflict.{Sound, exits, conflicts}
 use Rattle.theory.specs.Row.{Key, keyBefore}
 use Rattle.theory.specs.Edges.{noEdges}
 use Rattle.theory.specs.Machine.{push, pour}
 use Rattle.theory.specs.Backward.{stepBack}
 use Rattle.theory.specs.Listing.{listing}
-use Rattle.theory.specs.SweepWords.{Words, Fits, entry-fits, rowWords, growWords, pourWords, fillWords, baseWords, builtWords}
+use Rattle.theory.specs.SweepWords.{Words, Fits, entry-fits, rowWords, growWords, pourWords, fillWords}
 use Rattle.theory.specs.Main.{sweep-turn}
-use Rattle.theory.specs.Plan.{wordAt, exitBy, Planned}
-use Rattle.sweep.specs.Entries.{entriesFrom, betterOf}
-use Rattle.sweep.specs.Steps.{sideOf, stepKey, stepWords, step-key, step-words}
-use Rattle.sweep.specs.Rows.{poured, rowIn, pouredBy, leftFrom}
+use Rattle.theory.specs.Range.{Range, upTo}
+use Rattle.theory.specs.Plan.{targetAt, costAt, exitBy, IsWay, Planned, costLimit, PlanOf}
+use Rattle.rows.specs.declared.Entry.{Entry}
+use Rattle.rows.specs.declared.Tails.{Tails}
+use Rattle.rows.specs.Entries.{entryAt, entriesFrom, betterOf, Grown, entries-length}
+use Rattle.rows.specs.Steps.{sideOf, stepKey, stepWords, step-key, step-words}
+use Rattle.rows.specs.Rows.{sourceOf, manyOf, tailsBy, pouredBy, leftFrom, left-grows, Ready}
+use Rattle.rows.specs.Begun.{Holds, begunWith}
+use Rattle.sweep.specs.declared.Drive.{Drive}
+use Rattle.sweep.specs.declared.Sources.{Sources}
+use Rattle.sweep.specs.declared.Built.{Built}
+use Rattle.sweep.specs.Answer.{noEntry}
+use Rattle.sweep.specs.Table.{entriesIn, fetched, fetched-at, fetched-length, fetched-entries, stored, stored-is, structsOf}
 
 -- ---- pouring by steps that agree on the entries
 
@@ -40,66 +48,290 @@ module _ {K B : Type 0} (lt : K → K → Bool) (bt : B → B → Bool) (s z : K
       let (p, q) = f e (inl refl) in
       ap₂ (λ o v. pour lt bt s g l (push lt bt o v r)) p q ∙ pour-same l (λ d m. f d (inr m)) (push lt bt (z (e .0)) (h (e .1)) r)
 
--- the row of the last block begins with its own entry
-abbrev pub begunWith : List ℕ → (count b : ℕ) → List (Key × Words)
-begunWith plan count b = cond (eqb (suc b) count) ((noEdges, (wordAt plan b 2, (0, 0))) ∷ []) []
+-- ---- the row by definition
 
--- row t by definition
-abbrev pub rowOf : Body → ℕ → List (Key × Words)
-rowOf body t = rowWords body (conflicts body) (stepCost body) heavier t
+-- row t
+abbrev pub rowOf : Body → (cost : ℕ → ℕ → ℕ) → ℕ → List (Key × Words)
+rowOf body cost t = rowWords body (conflicts body) cost heavier t
 
-module _ (body : Body) (g : Sound body) (plan : List ℕ) (fits : (k : ℕ) → getD plan k 0 < 2 ^ 64) (planned : Planned body plan) (cheap : (b : ℕ) → block body b .cost ≤ 1000000)
-    (table lengths : List ℕ) (sized : length lengths ≡ 64) (b : ℕ) (inside : b < body .count) (above : (t : ℕ) → b < t → t < body .count → rowIn table lengths t ≡ rowOf body t) where
-  entry-small : (t : ℕ) → t < body .count → (e : Key × Words) → Mem e (rowOf body t) → Fits body 1000000 t e
-  entry-small = entry-fits body (g .onward) (conflicts body) (listing body (g .onward)) (stepCost body) 1000000 (λ b way. cheap b) heavier heaviest
+-- the costs of any body with this plan keep to its range
+pub range-of : (plan : List ℕ) (count : ℕ) → PlanOf plan count → (body : Body) (cost : ℕ → ℕ → ℕ) → Planned body cost plan → body .count ≡ count → Range (body .count) cost costLimit
+range-of plan count of body cost p e = record {
+  most = of .range .most;
+  each = λ b way h. let l : b < of .body .count = omega (arith, of .size) in
+      subst (λ (c : ℕ). c ≤ of .range .most b) (sym (of .planned .costs b way l) ∙ p .costs b way h) (of .range .each b way l);
+  all = subst (λ (n : ℕ). upTo (of .range .most) n ≤ costLimit) (of .size ∙ sym e) (of .range .all);
+}
 
-  -- a way with its target
-  pub way-poured : (way : ℕ) → Way way → Mem (way, wordAt plan b (way - 1)) (exits body b) → (r : List (Key × Words))
-      → pouredBy plan table lengths b way r ≡ pourWords body (conflicts body) (stepCost body) heavier 64 (b, way) (rowIn table lengths (wordAt plan b (way - 1))) r
-  unfolding pouredBy
-  way-poured way v m r =
-      let t = wordAt plan b (way - 1) in
-      let up = g .onward .above b (way, t) m in
-      let on = g .onward .inside b (way, t) m in
-      pour-same keyBefore betterOf (stepKey (sideOf plan b way 1) (sideOf plan b way 2)) (stepBack body (conflicts body) (b, way))
-      (stepWords (sideOf plan b way 1) (sideOf plan b way 2) (wordAt plan b 2)) (growWords (stepCost body) (b, way)) (rowIn table lengths t)
-      (λ e i. let f = entry-small t on e (subst (Mem e) (above t up on) i) in
-      (step-key body g plan fits planned b way inside v (e .0) (f .jumps) (f .falls), step-words body g plan fits planned b way inside v (stepCost body) (wordAt plan b 2) (planned .costs b inside) (e .1))) r
+module _ (body : Body) (g : Sound body) (cost : ℕ → ℕ → ℕ) (range : Range (body .count) cost costLimit) where
+  -- how large the entries of a row are
+  pub entry-small : (t : ℕ) → t < body .count → (e : Key × Words) → Mem e (rowOf body cost t) → Fits body (range .most) t e
+  entry-small = entry-fits body (g .onward) (conflicts body) (listing body (g .onward)) cost (range .most) (range .each) heavier heaviest
 
-  -- a way with none
-  no-row : (t : ℕ) → 64 ≤ t → rowIn table lengths t ≡ []
-  unfolding entriesFrom
-  no-row t h = ap (entriesFrom table (64 * t)) (List·getD-eq-default lengths 0 (omega arith))
+  module _ (plan : List ℕ) (fits : (k : ℕ) → getD plan k 0 < 2 ^ 64) (planned : Planned body cost plan) (rows : ℕ → List (Key × Words)) (beyond : (t : ℕ) → 64 ≤ t → rows t ≡ [])
+      (b : ℕ) (inside : b < body .count) (above : (t : ℕ) → b < t → t < body .count → rows t ≡ rowOf body cost t) where
+    -- by each way the row of its target
+    abbrev tails : ℕ → List (Key × Words)
+    tails way = rows (targetAt plan b way)
 
-  none-poured : (way : ℕ) → 64 ≤ wordAt plan b (way - 1) → (r : List (Key × Words)) → pouredBy plan table lengths b way r ≡ r
-  unfolding pouredBy pour
-  none-poured way h r = ap (λ l. poured (sideOf plan b way 1) (sideOf plan b way 2) (wordAt plan b 2) l r) (no-row (wordAt plan b (way - 1)) h)
+    -- a way with its target
+    way-poured : (way : ℕ) → IsWay way → Mem (way, targetAt plan b way) (exits body b) → (r : List (Key × Words))
+        → pouredBy plan b way (tails way) r ≡ pourWords body (conflicts body) cost heavier 64 (b, way) (tails way) r
+    unfolding pouredBy
+    way-poured way v m r =
+        let t = targetAt plan b way in
+        let up = g .onward .above b (way, t) m in
+        let on = g .onward .inside b (way, t) m in
+        pour-same keyBefore betterOf (stepKey (sideOf plan b way 1) (sideOf plan b way 2)) (stepBack body (conflicts body) (b, way))
+        (stepWords (sideOf plan b way 1) (sideOf plan b way 2) (costAt plan b way)) (growWords cost (b, way)) (tails way)
+        (λ e i. let f = entry-small t on e (subst (Mem e) (above t up on) i) in
+        (step-key body g plan fits cost planned b way inside v (e .0) (f .jumps) (f .falls), step-words body g plan fits cost planned b way inside v (costAt plan b way) (planned .costs b way inside) (e .1))) r
 
-  abbrev filling : List (ℕ × ℕ) → List (Key × Words) → List (Key × Words)
-  filling os r = fillWords body (conflicts body) (stepCost body) heavier 64 (rowIn table lengths) b os r
+    -- a way with none
+    none-poured : (way : ℕ) → 64 ≤ targetAt plan b way → (r : List (Key × Words)) → pouredBy plan b way (tails way) r ≡ r
+    unfolding pouredBy pour
+    none-poured way h r = ap (λ l. pouredBy plan b way l r) (beyond (targetAt plan b way) h)
 
-  -- the ways of the plan, one after the other
-  one-way : (way : ℕ) → Way way → ((o : ℕ × ℕ) → Mem o (exitBy way (wordAt plan b (way - 1))) → Mem o (exits body b)) → (rest : List (ℕ × ℕ)) (r : List (Key × Words))
-      → filling (exitBy way (wordAt plan b (way - 1)) ++ rest) r ≡ filling rest (pouredBy plan table lengths b way r)
-  unfolding fillWords
-  one-way way v among rest r = by (ltb (wordAt plan b (way - 1)) 64) refl
+    abbrev filling : List (ℕ × ℕ) → List (Key × Words) → List (Key × Words)
+    filling os r = fillWords body (conflicts body) cost heavier 64 rows b os r
+
+    -- the ways of the plan, one after the other
+    one-way : (way : ℕ) → IsWay way → ((o : ℕ × ℕ) → Mem o (exitBy way (targetAt plan b way)) → Mem o (exits body b)) → (rest : List (ℕ × ℕ)) (r : List (Key × Words))
+        → filling (exitBy way (targetAt plan b way) ++ rest) r ≡ filling rest (pouredBy plan b way (tails way) r)
+    unfolding fillWords
+    one-way way v among rest r = by (ltb t 64) refl
+      where
+        t : ℕ
+        t = targetAt plan b way
+
+        by : (c : Bool) → ltb t 64 ≡ c → filling (cond c ((way, t) ∷ []) [] ++ rest) r ≡ filling rest (pouredBy plan b way (tails way) r)
+        by true e = ap (filling rest) (sym (way-poured way v (among (way, t) (subst (λ (c : Bool). Mem {A = ℕ × ℕ} (way, t) (cond c ((way, t) ∷ []) [])) (sym e) (inl refl))) r))
+        by false e = ap (filling rest) (sym (none-poured way (ltb-false t 64 e) r))
+
+    ways : (r : List (Key × Words)) → filling (exits body b) r ≡ leftFrom plan b tails 1 r
+    unfolding leftFrom fillWords
+    ways r =
+        let e = planned .ways b inside in
+        ap (λ os. filling os r) e
+        ∙ one-way 1 (omega arith, omega arith) (λ o m. subst (Mem o) (sym e) (mem-left o (exitBy 1 (targetAt plan b 1)) (exitBy 2 (targetAt plan b 2)) m)) (exitBy 2 (targetAt plan b 2)) r
+        ∙ ap (λ os. filling os (pouredBy plan b 1 (tails 1) r)) (sym (append-nil (exitBy 2 (targetAt plan b 2))))
+        ∙ one-way 2 (omega arith, omega arith) (λ o m. subst (Mem o) (sym e) (mem-right o (exitBy 1 (targetAt plan b 1)) (exitBy 2 (targetAt plan b 2)) m)) [] (pouredBy plan b 1 (tails 1) r)
+
+    -- the row is built as the theory builds it, so it is the row by definition
+    pub row-is : leftFrom plan b tails 1 (begunWith plan (body .count) b) ≡ rowOf body cost b
+    row-is =
+        sym (ways (begunWith plan (body .count) b))
+        ∙ ap (λ c. filling (exits body b) (cond (eqb (suc b) (body .count)) ((noEdges, (c, (0, 0))) ∷ []) [])) (planned .costs b 0 inside)
+        ∙ sweep-turn body g cost heavier heaviest rows b inside above
+
+-- ---- what the covered functions make
+
+-- row t of the table
+abbrev pub rowIn : List Entry → (lengths : List ℕ) → ℕ → List (Key × Words)
+rowIn table lengths t = entriesIn table (64 * t) (getD lengths t 0)
+
+-- by each way the row of the target of block b
+abbrev pub targetRows : (plan : List ℕ) → List Entry → (lengths : List ℕ) → (b way : ℕ) → List (Key × Words)
+targetRows plan table lengths b way = rowIn table lengths (targetAt plan b way)
+
+-- the row of block b, of the rows in the table
+abbrev pub rowFrom : (plan : List ℕ) → (count : ℕ) → List Entry → (lengths : List ℕ) → (b : ℕ) → List (Key × Words)
+rowFrom plan count table lengths b = leftFrom plan b (targetRows plan table lengths b) 1 (begunWith plan count b)
+
+-- the first entry of row t, where there is such a row
+abbrev pub firstOf : ℕ → ℕ
+firstOf t = cond (ltb t 64) (64 * t) 0
+
+abbrev pub sourcesOf : (plan lengths : List ℕ) → ℕ → Sources
+sourcesOf plan lengths b = record {
+  b = b;
+  jump = firstOf (targetAt plan b 1);
+  jumps = getD lengths (targetAt plan b 1) 0;
+  fall = firstOf (targetAt plan b 2);
+  falls = getD lengths (targetAt plan b 2) 0;
+}
+
+abbrev pub tailsIn : Sources → Tails
+tailsIn s = record { jumps = s .jumps; falls = s .falls }
+
+-- a row of up to 64 entries is stored whole, a longer one not at all
+abbrev pub wholeOf : (held : ℕ) → ℕ
+wholeOf held = cond (ltb held 65) 64 0
+
+-- a row of up to 64 entries, or the 65th has been met; and where it goes
+pub record BuiltAs (r : List (Key × Words)) (b : ℕ) (built : Built) : Type 0 where
+  pub whole : built .held ≤ 64 → Holds r (built .words) (built .held)
+  pub over : 64 < built .held → 64 < length r
+  pub from-is : built .from ≡ 64 * b
+  pub entries-is : built .entries ≡ wholeOf (built .held)
+
+pub built-as : (plan : List ℕ) (b : ℕ) (tails : ℕ → List (Key × Words)) (r : List (Key × Words)) (row : List ℕ) (n : ℕ) → Holds r row n → (new : List ℕ) (m : ℕ)
+    → Grown (leftFrom plan b tails 1 (entriesFrom row 0 n)) row new m → length new ≡ 320 → (whole : ℕ) → whole ≡ wholeOf m
+    → BuiltAs (leftFrom plan b tails 1 r) b (record { held = m; from = 64 * b; entries = whole; words = new })
+built-as plan b tails r row n h new m grown size whole e = record {
+  whole = λ few. record {
+    few = few;
+    size = size;
+    held = grown .held few ∙ ap (leftFrom plan b tails 1) (h .held);
+    zeros = λ k l. grown .rest k l ∙ h .zeros k (omega (arith, longer few));
+  };
+  over = λ l. subst (λ (r : List (Key × Words)). 64 < length (leftFrom plan b tails 1 r)) (h .held) (grown .over l);
+  from-is = refl;
+  entries-is = e;
+}
+  where
+    longer : m ≤ 64 → n ≤ m
+    longer few = omega (arith, left-grows plan b tails 1 (entriesFrom row 0 n), entries-length row 0 n, ap length (grown .held few), entries-length new 0 m)
+
+-- ---- one turn
+
+pub record TurnReady (plan : List ℕ) (table : List Entry) (at : Drive) : Type 0 where
+  pub size : length plan ≡ 1024
+  pub some : 0 < at .b
+  pub most : at .b ≤ 64
+  pub rows : length (at .lengths) ≡ 64
+  pub few : (t : ℕ) → getD (at .lengths) t 0 ≤ 64
+  pub room : 64 * at .b ≤ length table
+  pub inside : (t i : ℕ) → i < getD (at .lengths) t 0 → 64 * t + i < length table
+  pub light : (way t i : ℕ) → i < getD (at .lengths) t 0 → costAt plan (at .b - 1) way + getD table (64 * t + i) noEntry .way .weight < 2 ^ 64
+
+-- a row of up to 64 entries stands in the table at block b
+pub record Stored (r : List (Key × Words)) (table new : List Entry) (b n : ℕ) : Type 0 where
+  pub row : List ℕ
+  pub holds : Holds r row n
+  pub table-is : new ≡ paste table (64 * b) (structsOf row) 64
+
+-- it is stored; the 65th set changes nothing
+pub record Turned (r : List (Key × Words)) (table new : List Entry) (b n : ℕ) : Type 0 where
+  pub whole : n ≤ 64 → Stored r table new b n
+  pub over : 64 < n → (64 < length r) × (new ≡ table)
+
+abbrev pub turnedBy : (plan : List ℕ) (count : ℕ) (at : Drive) (table new : List Entry) (n : ℕ) → Type 0
+turnedBy plan count at table new n = Turned (rowFrom plan count table (at .lengths) (at .b - 1)) table new (at .b - 1) n
+
+module _ (plan : List ℕ) (count : ℕ) (at : Drive) (table : List Entry) (t : TurnReady plan table at) where
+  abbrev block : ℕ
+  block = at .b - 1
+
+  -- a target's row stands in the table
+  module _ (target : ℕ) where
+    abbrev many : ℕ
+    many = getD (at .lengths) target 0
+
+    abbrev source : List ℕ
+    source = fetched table (firstOf target) many
+
+    known : (i : ℕ) → i < many → firstOf target ≡ 64 * target
+    known i h = split (ltb target 64) (λ q. rw q refl) (λ q. absurd (never (ltb-false target 64 q)))
+      where
+        never : 64 ≤ target → ⊥
+        never l = omega (arith, List·getD-eq-default (at .lengths) 0 {n = target} (omega (arith, t .rows)))
+
+    source-inside : (k : ℕ) → k < many → firstOf target + k < length table
+    source-inside k h = omega (arith, known k h, t .inside target k h)
+
+    source-light : (way i : ℕ) → i < many → costAt plan block way + entryAt source i .1 .0 < 2 ^ 64
+    source-light way i h =
+        let e : entryAt source i .1 .0 ≡ getD table (64 * target + i) noEntry .way .weight =
+        ap (λ (e : Key × Words). e .1 .0) (fetched-at table (firstOf target) many (t .few target) i h) ∙ ap (λ f. getD table (f + i) noEntry .way .weight) (known i h) in
+        subst (λ (n : ℕ). costAt plan block way + n < 2 ^ 64) (sym e) (t .light way target i h)
+
+    source-row : entriesFrom source 0 many ≡ rowIn table (at .lengths) target
+    unfolding entriesIn
+    source-row = fetched-entries table (firstOf target) many (t .few target) ∙ place many refl
+      where
+        place : (n : ℕ) → n ≡ many → entriesIn table (firstOf target) n ≡ entriesIn table (64 * target) n
+        place zero e = refl
+        place (suc n) e = ap (λ f. entriesIn table f (suc n)) (known 0 (omega arith))
+
+  abbrev s : Sources
+  s = sourcesOf plan (at .lengths) block
+
+  abbrev jump-source : List ℕ
+  jump-source = source (targetAt plan block 1)
+
+  abbrev fall-source : List ℕ
+  fall-source = source (targetAt plan block 2)
+
+  abbrev Row : Sources → (first second : List ℕ) → List (Key × Words)
+  Row s first second = leftFrom plan (s .b) (tailsBy (tailsIn s) first second) 1 (begunWith plan count (s .b))
+
+  made-is : Row s jump-source fall-source ≡ rowFrom plan count table (at .lengths) block
+  unfolding leftFrom
+  made-is = λ i. pouredBy plan block 2 (source-row (targetAt plan block 2) i) (pouredBy plan block 1 (source-row (targetAt plan block 1) i) (begunWith plan count block))
+
+  ready : Ready plan block (tailsIn s) jump-source fall-source
+  ready = record {
+    size = t .size;
+    below = omega (arith, t .some, t .most);
+    first-size = fetched-length table (firstOf (targetAt plan block 1)) (many (targetAt plan block 1));
+    second-size = fetched-length table (firstOf (targetAt plan block 2)) (many (targetAt plan block 2));
+    jumps-few = t .few (targetAt plan block 1);
+    falls-few = t .few (targetAt plan block 2);
+    light = λ way i. by way i (eqb way 1);
+  }
     where
-      by : (c : Bool) → ltb (wordAt plan b (way - 1)) 64 ≡ c → filling (cond c ((way, wordAt plan b (way - 1)) ∷ []) [] ++ rest) r ≡ filling rest (pouredBy plan table lengths b way r)
-      by true e = ap (filling rest) (sym (way-poured way v (among (way, wordAt plan b (way - 1)) (subst (λ (c : Bool). Mem {A = ℕ × ℕ} (way, wordAt plan b (way - 1)) (cond c ((way, wordAt plan b (way - 1)) ∷ []) [])) (sym e) (inl refl))) r))
-      by false e = ap (filling rest) (sym (none-poured way (ltb-false (wordAt plan b (way - 1)) 64 e) r))
+      by : (way i : ℕ) (c : Bool) → i < cond c (many (targetAt plan block 1)) (many (targetAt plan block 2)) → costAt plan block way + entryAt (cond c jump-source fall-source) i .1 .0 < 2 ^ 64
+      by way i true h = source-light (targetAt plan block 1) way i h
+      by way i false h = source-light (targetAt plan block 2) way i h
 
-  ways : (r : List (Key × Words)) → filling (exits body b) r ≡ leftFrom plan table lengths b 1 r
-  unfolding leftFrom fillWords
-  ways r =
-      let e = planned .ways b inside in
-      ap (λ os. filling os r) e
-      ∙ one-way 1 (inl refl) (λ o m. subst (Mem o) (sym e) (mem-left o (exitBy 1 (wordAt plan b 0)) (exitBy 2 (wordAt plan b 1)) m)) (exitBy 2 (wordAt plan b 1)) r
-      ∙ ap (λ os. filling os (pouredBy plan table lengths b 1 r)) (sym (append-nil (exitBy 2 (wordAt plan b 1))))
-      ∙ one-way 2 (inr refl) (λ o m. subst (Mem o) (sym e) (mem-right o (exitBy 1 (wordAt plan b 0)) (exitBy 2 (wordAt plan b 1)) m)) [] (pouredBy plan table lengths b 1 r)
+  module _ (built : Built) (is : BuiltAs (rowFrom plan count table (at .lengths) block) block built) where
+    stores-all : built .held ≤ 64 → built .entries ≡ 64
+    stores-all few = is .entries-is ∙ ap (λ c. cond c 64 0) (lt-ltb (built .held) 65 (omega arith))
 
-  -- the row is built as the theory builds it, so it is the row by definition
-  pub row-is : leftFrom plan table lengths b 1 (begunWith plan (body .count) b) ≡ rowOf body b
-  row-is =
-      sym (ways (begunWith plan (body .count) b))
-      ∙ ap (λ c. filling (exits body b) (cond (eqb (suc b) (body .count)) ((noEdges, (c, (0, 0))) ∷ []) [])) (planned .costs b inside)
-      ∙ sweep-turn body g (stepCost body) heavier heaviest (rowIn table lengths) b inside above
+    stores-none : 64 < built .held → built .entries ≡ 0
+    stores-none over = is .entries-is ∙ ap (λ c. cond c 64 0) (le-ltb (built .held) 65 over)
+
+    store-fits : (built .entries ≤ 64) × (built .from + built .entries ≤ length table)
+    store-fits = split (ltb 64 (built .held))
+        (λ q. let e = stores-none (ltb-true 64 (built .held) q) in (omega arith, omega (arith, is .from-is, t .some, t .room)))
+        (λ q. let e = stores-all (ltb-false 64 (built .held) q) in (omega arith, omega (arith, is .from-is, t .some, t .room)))
+
+    turned : (new : List Entry) → new ≡ stored table (built .from) (built .words) (built .entries) → turnedBy plan count at table new (built .held)
+    unfolding stored
+    turned new e = record {
+      whole = λ few. record {
+        row = built .words;
+        holds = is .whole few;
+        table-is = e ∙ ap₂ (λ f n. stored table f (built .words) n) (is .from-is) (stores-all few) ∙ stored-is table (64 * block) (built .words) 64 (omega arith) (omega (arith, t .some, t .room));
+      };
+      over = λ m. (is .over m, e ∙ ap (stored table (built .from) (built .words)) (stores-none m));
+    }
+
+  -- the same, for what the covered functions returned
+  module _ (r : Sources) (r-is : r ≡ s) where
+    pub jump-asked : (r .jumps ≤ 64) × ((k : ℕ) → k < r .jumps → r .jump + k < length table)
+    jump-asked = subst (λ (s : Sources). (s .jumps ≤ 64) × ((k : ℕ) → k < s .jumps → s .jump + k < length table)) (sym r-is) (t .few (targetAt plan block 1), source-inside (targetAt plan block 1))
+
+    pub fall-asked : (r .falls ≤ 64) × ((k : ℕ) → k < r .falls → r .fall + k < length table)
+    fall-asked = subst (λ (s : Sources). (s .falls ≤ 64) × ((k : ℕ) → k < s .falls → s .fall + k < length table)) (sym r-is) (t .few (targetAt plan block 2), source-inside (targetAt plan block 2))
+
+    module _ (first second : List ℕ) (first-is : first ≡ fetched table (r .jump) (r .jumps)) (second-is : second ≡ fetched table (r .fall) (r .falls)) where
+      abbrev Asked : Sources → List ℕ → List ℕ → Type 0
+      Asked s first second = Ready plan (s .b) (tailsIn s) first second
+
+      pub make-asked : Asked r first second
+      make-asked =
+          subst (λ (l : List ℕ). Asked r l second) (sym first-is) (subst (λ (l : List ℕ). Asked r (fetched table (r .jump) (r .jumps)) l) (sym second-is)
+          (subst (λ (s : Sources). Asked s (fetched table (s .jump) (s .jumps)) (fetched table (s .fall) (s .falls))) (sym r-is) ready))
+
+      abbrev Made : Built → Sources → List ℕ → List ℕ → Type 0
+      Made built s first second = BuiltAs (Row s first second) (s .b) built
+
+      module _ (built : Built) (is : Made built r first second) where
+        made : BuiltAs (rowFrom plan count table (at .lengths) block) block built
+        made =
+            subst (λ (l : List (Key × Words)). BuiltAs l block built) made-is
+            (subst (λ (x : Sources). Made built x (fetched table (x .jump) (x .jumps)) (fetched table (x .fall) (x .falls))) r-is
+            (subst (λ (l : List ℕ). Made built r (fetched table (r .jump) (r .jumps)) l) second-is (subst (λ (l : List ℕ). Made built r l second) first-is is)))
+
+        pub store-asked : (built .entries ≤ 64) × (built .from + built .entries ≤ length table)
+        store-asked = store-fits built made
+
+        pub turn-made : (new : List Entry) → new ≡ stored table (built .from) (built .words) (built .entries) → turnedBy plan count at table new (built .held)
+        turn-made new e = turned built made new e
+
+-- a struct's array of words has its words as they are
+pub same-words : (l : List ℕ) → map {A = ℕ} {B = ℕ} (λ v. v) l ≡ l
+same-words [] = refl
+same-words (x ∷ l) = ap (λ r. x ∷ r) (same-words l)

@@ -1,8 +1,7 @@
 -- The worked example of document 01: its list, routes, rows, weight, route bytes, walked and kept, by computation.
--- Rests on Route, Row and form's Conflict.
+-- Rests on Route, Row, RunWide and form's Conflict.
 use mathlib.Core.Path.{_≡_, refl, ap, _∙_}
-use mathlib.Core.Logic.{inl, inr}
-use mathlib.Core.Bool.{Bool, true, false, cond, true≢false, false≢true}
+use mathlib.Core.Bool.{Bool, true, false, cond}
 use mathlib.Core.List.{List, [], _∷_, map}
 use mathlib.Core.Option.{none, some}
 use Prim.Native.Nat.{ℕ}
@@ -16,16 +15,22 @@ use Rattle.laws.specs.Terms.{heavier, range, setOf}
 use Rattle.form.specs.declared.Body.{Body}
 use Rattle.form.specs.declared.Block.{Block}
 use Rattle.form.specs.declared.Effect.{Effect}
-use Rattle.form.specs.Conflict.{Pair, block, effectsBelow, effectsOf, touches, lastOn, exits, isTest, condition, contradict, opposes, denies, clean, assigned, crossed, pairsOf, conflicts, conflictBytes, listed}
-use Rattle.theory.specs.Route.{stepCost, paths, conflict, tails, routes, weight, best, bestRoute, wayOf, routeBytes, beginnings, walked}
-use Rattle.theory.specs.Row.{Entry, bare, openEdges, addKey, keys, rowOf, openTails, leftBy, row, longest, kept, highest, crowded}
+use Rattle.form.specs.Conflict.{Pair, block, effectsBelow, effectsOf, touches, lastOn, exits, isTest, condition}
+use Rattle.form.specs.Conflict.{contradict, opposes, denies, clean, assigned, crossed, pairsOf, conflicts}
+use Rattle.form.specs.Conflict.{conflictBytes, listed}
+use Rattle.theory.specs.Route.{stepCost, paths, conflict, tails, routes, weight, best, bestRoute, dearest}
+use Rattle.theory.specs.Route.{routeOn, wayOf, routeBytes, beginnings, walked}
+use Rattle.theory.specs.Row.{Entry, bare, openEdges, addKey, keys, rowOf, openTails, leftBy, row, longest, kept}
+use Rattle.theory.specs.Row.{highest, crowded}
 use Rattle.theory.specs.Run.{State, Does, Iteration}
 use Rattle.theory.specs.Run.Do.{done, does}
 use Rattle.theory.specs.Run.Iteration.{ends, goes}
+use Rattle.theory.specs.runs.RunWide.{go-left, test-left}
 
 -- cost, number of effects, jump
 abbrev goesTo : ℕ → ℕ → ℕ → Block
-goesTo cost effects jump = record { cost = cost; ending = 1; jump = jump; fall = 0; variable = 0; relation = 0; constant = pos 0; effects = effects }
+goesTo cost effects jump =
+    record { cost = cost; ending = 1; jump = jump; fall = 0; variable = 0; relation = 0; constant = pos 0; effects = effects }
 
 -- cost, variable, relation, constant, jump, fall
 abbrev asks : ℕ → ℕ → ℕ → ℤ → ℕ → ℕ → Block
@@ -39,8 +44,11 @@ abbrev pub example : Body
 example = record {
   counter = record { initial = pos 0; step = pos 1; relation = 2; limit = pos 10 };
   count = 8;
-  blocks = asks 7 0 3 (pos 40) 2 1 ∷ goesTo 3 1 3 ∷ goesTo 11 1 3 ∷ asks 2 0 2 (pos 20) 4 5 ∷ goesTo 25 0 5 ∷ asks 4 1 0 (pos 0) 7 6 ∷ goesTo 18 0 7
-      ∷ record { cost = 1; ending = 0; jump = 0; fall = 0; variable = 0; relation = 0; constant = pos 0; effects = 0 } ∷ [];
+  blocks =
+      asks 7 0 3 (pos 40) 2 1 ∷ goesTo 3 1 3 ∷ goesTo 11 1 3 ∷ asks 2 0 2 (pos 20) 4 5 ∷ goesTo 25 0 5 ∷ asks 4 1 0
+      (pos 0) 7 6 ∷ goesTo 18 0 7
+      ∷ record { cost = 1; ending = 0; jump = 0; fall = 0; variable = 0; relation = 0; constant = pos 0; effects = 0 }
+      ∷ [];
   total = 2;
   effects = sets 1 (pos 0) ∷ sets 1 (pos 1) ∷ [];
 }
@@ -67,11 +75,12 @@ pub routes-are : routes example
 unfolding block effectsBelow effectsOf touches lastOn exits isTest condition contradict opposes denies paths conflict tails
 routes-are = refl
 
-pub best-is : bestRoute example (stepCost example) heavier ≡ some (43, (0, 1) ∷ (2, 1) ∷ (3, 2) ∷ (5, 2) ∷ (6, 1) ∷ [])
+pub best-is : routeOn example (dearest example) ≡ some (43, (0, 1) ∷ (2, 1) ∷ (3, 2) ∷ (5, 2) ∷ (6, 1) ∷ [])
 unfolding bestRoute weight best block
 best-is = ap (λ l. best heavier (map (λ p. (weight (stepCost example) 7 p, p)) l)) routes-are
 
-pub bytes-are : routeBytes example ((0, 1) ∷ (2, 1) ∷ (3, 2) ∷ (5, 2) ∷ (6, 1) ∷ []) ≡ 1 ∷ 0 ∷ 1 ∷ 2 ∷ 0 ∷ 2 ∷ 1 ∷ 3 ∷ []
+pub bytes-are : routeBytes example ((0, 1) ∷ (2, 1) ∷ (3, 2) ∷ (5, 2) ∷ (6, 1) ∷ []) ≡ 1 ∷ 0 ∷ 1 ∷ 2 ∷ 0 ∷ 2 ∷ 1 ∷ 3
+    ∷ []
 unfolding routeBytes wayOf
 bytes-are = refl
 
@@ -83,7 +92,8 @@ abbrev rowAt : ℕ → List Entry
 rowAt b = row example pairs (stepCost example) heavier b
 
 abbrev entry : ℕ → ℕ → ℕ → ℕ → ℕ → Entry
-entry jumps falls weight jumped fallen = record { jumps = jumps; falls = falls; weight = weight; jumped = jumped; fallen = fallen }
+entry jumps falls weight jumped fallen =
+    record { jumps = jumps; falls = falls; weight = weight; jumped = jumped; fallen = fallen }
 
 -- all eight rows, block 0 first
 pub rows-are : map rowAt (range 0 8)
@@ -128,15 +138,12 @@ flagged = record { value = λ v. cond (eqb v 1) (pos 1) (pos 50); fits = λ v. b
 flag : Does (sets 1 (pos 1)) fifty flagged
 flag = record { constant = λ h. refl; others = λ v n. ap (λ c. cond c (pos 1) (pos 50)) (ne-eqb v 1 n) }
 
-no-test : _≡_ {A = ℕ} 1 3 → ⊥
-no-test h = omega arith
-
 pub iteration : Iteration example 0 fifty ((0, 1) ∷ (2, 1) ∷ (3, 2) ∷ (5, 2) ∷ (6, 1) ∷ []) flagged
-unfolding block effectsBelow effectsOf exits
+unfolding block effectsBelow effectsOf
 iteration =
-    goes (1, 2) done (record { exit = inl refl; jump = λ h k. refl; fall = λ h k. absurd (true≢false k) })
-    (goes (1, 3) (does flag done) (record { exit = inl refl; jump = λ h k. refl; fall = λ h k. absurd (no-test h) })
-    (goes (2, 5) done (record { exit = inr (inl refl); jump = λ h k. absurd (false≢true k); fall = λ h k. refl })
-    (goes (2, 6) done (record { exit = inr (inl refl); jump = λ h k. absurd (false≢true k); fall = λ h k. refl })
-    (goes (1, 7) done (record { exit = inl refl; jump = λ h k. refl; fall = λ h k. absurd (no-test h) })
+    goes (1, 2) done (test-left example 0 fifty (1, 2) refl .1 refl)
+    (goes (1, 3) (does flag done) (go-left example 2 flagged (1, 3) refl .1 refl)
+    (goes (2, 5) done (test-left example 3 flagged (2, 5) refl .1 refl)
+    (goes (2, 6) done (test-left example 5 flagged (2, 6) refl .1 refl)
+    (goes (1, 7) done (go-left example 6 flagged (1, 7) refl .1 refl)
     (ends refl done)))))

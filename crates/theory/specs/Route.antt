@@ -1,12 +1,13 @@
--- Routes, after document 01, 'Conflicts and routes' and 'Full walk': paths in the stated order, conflict in a path, weight, the first of the preferred
--- weight, route bytes, and the number of conflict-free beginnings. Trusted: definitions only. Rests on form's Conflict.
+-- Routes, after document 01, 'Conflicts and routes' and 'Full walk': paths in the stated order, conflict in a path,
+-- weight, the first of the preferred weight, route bytes, and the number of conflict-free beginnings. Trusted:
+-- definitions only. Rests on form's Conflict.
 use mathlib.Core.Bool.{Bool, not, cond, _||_, _&&_}
 use mathlib.Core.List.{List, [], _∷_, _++_, map}
 use mathlib.Core.Option.{Option, none, some}
-use Prim.Native.Nat.{ℕ, zero, suc, _+_, _-_}
+use Prim.Native.Nat.{ℕ, zero, suc, _+_, _-_, _*_}
 use lib.Dec.{eqb}
 use lib.ListN.{getD, length}
-use Rattle.laws.specs.Terms.{any, before, each, only, range}
+use Rattle.laws.specs.Terms.{any, before, each, only, range, heavier}
 use Rattle.form.specs.declared.Body.{Body}
 use Rattle.form.specs.Conflict.{Edge, block, exits, condition, touches, opposes, denies}
 
@@ -33,7 +34,8 @@ at p i = getD p i (0, 0)
 abbrev pub overwritten : Body → Path → ℕ → ℕ → Bool
 overwritten body p i j = any (suc j) (λ k. before i k && touches body (at p k .0) (condition body (at p j) .variable))
 
--- An edge stands in the path, and before it an edge, or before it or in its own block a last constant, that conflicts with it and is not overwritten.
+-- An edge stands in the path, and before it an edge, or before it or in its own block a last constant, that conflicts
+-- with it and is not overwritten.
 unfoldable pub conflict : Body → Path → Bool
 conflict body p = any (length p) (λ j.
     any j (λ i. opposes body (at p i) (at p j) && not (overwritten body p i j))
@@ -74,6 +76,22 @@ weighed body cost p = (weight cost (lastBlock body) p, p)
 -- The weight and the path of the first conflict-free route of the preferred weight, if there is a route.
 unfoldable pub bestRoute : Body → (cost : ℕ → ℕ → ℕ) → (prefers : ℕ → ℕ → Bool) → Option (ℕ × Path)
 bestRoute body cost prefers = best prefers (map (weighed body cost) (routes body))
+
+-- A side of the answer: which of two weights is preferred, and what a step costs.
+pub record Side : Type 0 where
+  pub prefers : ℕ → ℕ → Bool
+  pub cost : ℕ → ℕ → ℕ
+
+-- The dearest iteration: heavier is preferred, and a step costs what it costs.
+abbrev pub dearest : Body → Side
+dearest body = record { prefers = heavier; cost = stepCost body }
+
+abbrev pub routeOn : Body → Side → Option (ℕ × Path)
+routeOn body side = bestRoute body (side .cost) (side .prefers)
+
+-- Bound = count times weight.
+abbrev pub boundOf : (count weight : ℕ) → ℕ
+boundOf count weight = count * weight
 
 -- ---- route bytes: 0 not on it, 1 left by jump or go, 2 by fall, 3 the last block
 

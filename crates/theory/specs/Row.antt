@@ -1,4 +1,5 @@
--- Rows, after document 01, 'Sweep': a tail's open edges, the row of a block, kept and crowded. Trusted: definitions only. Rests on Route and form's Conflict.
+-- Rows, after document 01, 'Sweep': a tail's open edges, the row of a block, kept and crowded. Trusted: definitions
+-- only. Rests on Route and form's Conflict.
 use mathlib.Core.Bool.{Bool, not, cond, true, false, _||_, _&&_}
 use mathlib.Core.List.{List, [], _∷_, _++_, map}
 use mathlib.Core.Option.{Option, none, some}
@@ -14,9 +15,11 @@ use Rattle.theory.specs.Route.{Path, at, tails, weighed, best}
 
 -- The edge e is in the tail, and no block of it up to e's, both included, has an effect on e's variable.
 unfoldable pub bare : Body → Path → Edge → Bool
-bare body p e = any (length p) (λ j. same (at p j) e && not (any (suc j) (λ i. touches body (at p i .0) (condition body e .variable))))
+bare body p e =
+    any (length p) (λ j. same (at p j) e
+    && not (any (suc j) (λ i. touches body (at p i .0) (condition body e .variable))))
 
--- The open edges of a tail of b: those left by jump and those left by fall, each as a set of blocks (bit k for block k).
+-- The open edges of a tail of b: those left by jump and those left by fall, each as a set of blocks (bit k: block k).
 abbrev pub Key : Type 0
 Key = ℕ × ℕ
 
@@ -57,7 +60,8 @@ found k none = []
 found k (some v) = (k, v) ∷ []
 
 -- For each different key, ascending, the first of those of the preferred weight.
-unfoldable pub rowOf : {K B : Type 0} → (K → K → Bool) → (prefers : ℕ → ℕ → Bool) → List (K × (ℕ × B)) → List (K × (ℕ × B))
+unfoldable pub rowOf : {K B : Type 0} → (K → K → Bool) → (prefers : ℕ → ℕ → Bool) → List (K × (ℕ × B))
+    → List (K × (ℕ × B))
 rowOf lt prefers l = each (keys lt l) (λ k. found k (best prefers (ofKey lt k l)))
 
 -- ---- the rows of a body
@@ -79,7 +83,13 @@ unfoldable pub leftBy : Body → ℕ → Path → ℕ
 leftBy body way p = setOf (body .count) (λ k. anyOf (λ x. same x (k, way)) p)
 
 abbrev pub entryOf : Body → Key × (ℕ × Path) → Entry
-entryOf body e = record { jumps = e .0 .0; falls = e .0 .1; weight = e .1 .0; jumped = leftBy body 1 (e .1 .1); fallen = leftBy body 2 (e .1 .1) }
+entryOf body e = record {
+  jumps = e .0 .0;
+  falls = e .0 .1;
+  weight = e .1 .0;
+  jumped = leftBy body 1 (e .1 .1);
+  fallen = leftBy body 2 (e .1 .1);
+}
 
 -- Row b.
 unfoldable pub row : Body → List Pair → (cost : ℕ → ℕ → ℕ) → (prefers : ℕ → ℕ → Bool) → ℕ → List Entry

@@ -1,4 +1,5 @@
--- Runs, after document 01, 'The two ways': states of i32 values, an iteration, a run and its cost. Trusted: definitions only. Rests on Route and form's Conflict.
+-- Runs, after document 01, 'The two ways': states of i32 values, an iteration, a run and its cost. Trusted: definitions
+-- only. RunWide's theorems say how wide they are. Rests on Route and form's Conflict.
 use mathlib.Core.Path.{_≡_}
 use mathlib.Core.Bool.{Bool, true, false}
 use mathlib.Core.List.{List, [], _∷_}
@@ -41,21 +42,25 @@ pub record Leaves (body : Body) (b : ℕ) (s : State) (o : ℕ × ℕ) : Type 0 
 -- An iteration from block b on: the effects of each block, then its ending, down to the last block's effects.
 pub data Iteration (body : Body) : ℕ → State → Path → State → Type 0 where
   ends : {b : ℕ} {s t : State} → suc b ≡ body .count → Do (effectsOf body b) s t → Iteration body b s [] t
-  goes : {b : ℕ} {s t u : State} {p : Path} (o : ℕ × ℕ) → Do (effectsOf body b) s t → Leaves body b t o → Iteration body (o .1) t p u
+  goes : {b : ℕ} {s t u : State} {p : Path} (o : ℕ × ℕ) → Do (effectsOf body b) s t → Leaves body b t o
+      → Iteration body (o .1) t p u
       → Iteration body b s ((b, o .0) ∷ p) u
 
 -- An iteration that is left early: it stops in a block that it has entered.
 pub data Beginning (body : Body) : ℕ → State → Path → ℕ → Type 0 where
   stops : {b : ℕ} {s : State} → Beginning body b s [] b
-  passes : {b last : ℕ} {s t : State} {p : Path} (o : ℕ × ℕ) → Do (effectsOf body b) s t → Leaves body b t o → Beginning body (o .1) t p last
+  passes : {b last : ℕ} {s t : State} {p : Path} (o : ℕ × ℕ) → Do (effectsOf body b) s t → Leaves body b t o
+      → Beginning body (o .1) t p last
       → Beginning body b s ((b, o .0) ∷ p) last
 
--- A run: iterations from block 0, each from any state, since variables pass as left or changed from outside, and each to its end or left early. Their paths, in order, each
--- with the block that it stops in.
+-- A run: iterations from block 0, each from any state, since variables pass as left or changed from outside, and each
+-- to its end or left early. Their paths, in order, each with the block that it stops in.
 pub data Run (body : Body) : List (Path × ℕ) → Type 0 where
   rests : Run body []
-  repeats : {s t : State} {p : Path} {l : List (Path × ℕ)} → Iteration body 0 s p t → Run body l → Run body ((p, lastBlock body) ∷ l)
-  breaks : {s : State} {p : Path} {last : ℕ} {l : List (Path × ℕ)} → Beginning body 0 s p last → Run body l → Run body ((p, last) ∷ l)
+  repeats : {s t : State} {p : Path} {l : List (Path × ℕ)} → Iteration body 0 s p t → Run body l
+      → Run body ((p, lastBlock body) ∷ l)
+  breaks : {s : State} {p : Path} {last : ℕ} {l : List (Path × ℕ)} → Beginning body 0 s p last → Run body l
+      → Run body ((p, last) ∷ l)
 
 -- What the run costs: the costs of the blocks that its iterations enter.
 unfoldable pub runCost : Body → (cost : ℕ → ℕ → ℕ) → List (Path × ℕ) → ℕ

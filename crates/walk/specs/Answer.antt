@@ -1,20 +1,20 @@
--- The full walk's answer, after document 01, 'Full walk' and 'Refusal numbers'. Trusted: definitions only. Rests on Owed and on theory's Route (walked, the first
--- heaviest conflict-free route, its bytes).
+-- The full walk's answer, after document 01, 'Full walk' and 'Refusal numbers'. Trusted: definitions only. Rests on
+-- Owed and on theory's Route (walked, a side of the answer and its route, the route's bytes, the bound).
 use mathlib.Core.Bool.{cond}
 use mathlib.Core.List.{List, _++_}
 use mathlib.Core.Option.{Option, none, some}
-use Prim.Native.Nat.{ℕ, _*_}
+use Prim.Native.Nat.{ℕ}
 use lib.Dec.{ltb}
 use lib.ListN.{length, drop}
-use Rattle.laws.specs.Terms.{heavier}
 use Rattle.form.specs.declared.Body.{Body}
 use Rattle.form.specs.Form.{bodyOf}
-use Rattle.theory.specs.Route.{Path, stepCost, bestRoute, routeBytes, walked}
+use Rattle.theory.specs.Route.{Path, Side, dearest, routeOn, boundOf, routeBytes, walked}
 use Rattle.plan.specs.Owed.{Owed}
 use Rattle.walk.specs.declared.WalkAnswer.{WalkAnswer}
 use Rattle.walk.specs.declared.WalkAnswer.the-variants.{Walked, Refused}
 
--- ---- an answer in document 01's numbers: number 0 is no refusal; of a refusal every other number but the place is zero
+-- ---- an answer in document 01's numbers: number 0 is no refusal; of a refusal every other number but the place is
+-- zero
 
 pub record Values : Type 0 where
   pub number : ℕ
@@ -28,7 +28,14 @@ abbrev pub refusal : (number place : ℕ) → Values
 refusal number place = record { number = number; place = place; iterations = 0; weight = 0; bound = 0; walked = 0 }
 
 abbrev pub said : WalkAnswer → Values
-said (Walked iterations weight bound walked) = record { number = 0; place = 0; iterations = iterations; weight = weight; bound = bound; walked = walked }
+said (Walked iterations weight bound walked) = record {
+  number = 0;
+  place = 0;
+  iterations = iterations;
+  weight = weight;
+  bound = bound;
+  walked = walked;
+}
 said (Refused number place) = refusal number place
 
 -- ---- what is owed: the answer, and what the lent bytes hold after it
@@ -40,20 +47,28 @@ Outcome = Values × List ℕ
 abbrev pub refused : List ℕ → (number place : ℕ) → Outcome
 refused lent number place = (refusal number place, lent)
 
--- 43 where there is no conflict-free route. Bound = count times weight. The route's bytes stand first; those past them are unchanged.
+-- 43 where there is no conflict-free route. The route's bytes stand first; those past them are unchanged.
 abbrev pub routed : Body → List ℕ → (count : ℕ) → Option (ℕ × Path) → Outcome
 routed body lent count none = refused lent 43 0
 routed body lent count (some v) = (
-  record { number = 0; place = 0; iterations = count; weight = v .0; bound = count * v .0; walked = walked body },
+  record {
+    number = 0;
+    place = 0;
+    iterations = count;
+    weight = v .0;
+    bound = boundOf count (v .0);
+    walked = walked body;
+  },
   routeBytes body (v .1) ++ drop (body .count) lent,
 )
 
 -- 42 with the bytes needed, then 41 with the budget, exactly when walked exceeds it, and 43 last.
-abbrev pub walkOutcome : Body → (budget : ℕ) → List ℕ → (count : ℕ) → Outcome
-walkOutcome body budget lent count =
+abbrev pub walkOutcome : Body → Side → (budget : ℕ) → List ℕ → (count : ℕ) → Outcome
+walkOutcome body side budget lent count =
     cond (ltb (length lent) (body .count)) (refused lent 42 (body .count))
-    (cond (ltb budget (walked body)) (refused lent 41 budget) (routed body lent count (bestRoute body (stepCost body) heavier)))
+    (cond (ltb budget (walked body)) (refused lent 41 budget) (routed body lent count (routeOn body side)))
 
--- The full walk, for any bytes.
+-- The full walk, for any bytes: the dearest iteration.
 abbrev pub WalkOwed : (form : List ℕ) → (budget : ℕ) → (lent : List ℕ) → Outcome → Type 0
-WalkOwed form budget lent outcome = Owed form (refused lent) (walkOutcome (bodyOf form) budget lent) outcome
+WalkOwed form budget lent outcome = Owed form (refused lent)
+    (walkOutcome (bodyOf form) (dearest (bodyOf form)) budget lent) outcome

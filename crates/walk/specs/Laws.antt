@@ -1,69 +1,90 @@
--- The laws of a turn of the full walk: the words of the code are the forward machine's state, and the two ways in order are the theory's turn. Rests on
--- WalkTerms and on theory's Walk, Forward and Edges.
+-- The laws of a turn of the full walk: the words of the code are the forward machine's state, and the two ways in order
+-- are the theory's turn. Rests on Terms and on theory's Walk, Forward and Edges.
 use mathlib.Core.Path.{_≡_, refl, sym, ap, ap₂, subst, _∙_}
 use mathlib.Core.Logic.{inl, inr}
 use mathlib.Core.Bool.{Bool, true, false, not, cond, _||_, _&&_, and-false, or-false}
 use mathlib.Core.List.{List, [], _∷_, _++_}
 use mathlib.Core.Option.{Option, none, some}
-use Prim.Native.Nat.{ℕ, suc, _+_, _-_, _*_, _^_, _<_, _≤_}
+use Prim.Native.Nat.{ℕ, zero, suc, _+_, _-_, _*_, _^_, _<_, _≤_}
 use native.Mathlib.Numerals.{add-one}
 use native.Mathlib.Omega.{arith}
-use borrow.Author.Tests.{ltb-true, ltb-false, lt-ltb}
+use borrow.Author.Tests.{eq-eqb, eqb-true, le-ltb, ltb-true, ltb-false, lt-ltb}
 use lib.Bits.{bitOr, or-lt}
 use lib.Pow.{pow-lt}
 use lib.Dec.{eqb, ltb}
+use lib.ListN.{getD}
 use Rattle.laws.specs.Terms.{Mem, bit, heavier}
-use Rattle.laws.specs.Tests.{split, clash, and-out, or-out, or-none, not-out}
-use Rattle.laws.specs.Sets.{ext, bit-with, bit-none}
-use Rattle.laws.specs.Orders.{heaviest}
+use Rattle.laws.specs.Tests.{split, clash, is-false, and-out, or-out, or-none, not-out}
+use Rattle.laws.specs.Sets.{ext, bit-with}
+use Rattle.laws.specs.Orders.{Choice}
 use Rattle.form.specs.declared.Body.{Body}
-use Rattle.form.specs.Conflict.{block, exits, isTest, condition, touches, opposes, denies, Sound}
+use Rattle.form.specs.Conflict.{exits, isTest, condition, touches, opposes, denies, Sound}
 use Rattle.lower_laws.specs.Joined.{denies-test, opposes-test}
-use Rattle.theory.specs.Route.{stepCost}
 use Rattle.theory.specs.Row.{Key}
-use Rattle.theory.specs.Edges.{has, edges-words, noEdges}
+use Rattle.theory.specs.Edges.{has, has-none, edges-words, noEdges}
 use Rattle.theory.specs.Walk.{keepFirst, andThen, ifStep, branch, walk-eq, tally, tallyBy}
 use Rattle.theory.specs.Forward.{onMachine, entered, banned, stepOn}
 use Rattle.theory.specs.Ties.{mark}
 use Rattle.theory.specs.SweepWords.{Words}
-use Rattle.theory.specs.WalkWords.{advance, finish}
+use Rattle.theory.specs.WalkWords.{advance, finish, nothing}
 use Rattle.theory.specs.Main.{walk-answer}
-use Rattle.theory.specs.Plan.{wordAt, Planned}
-use Rattle.walk.specs.declared.Stand.{Stand}
-use Rattle.walk.specs.declared.Found.{Found}
-use Rattle.walk.specs.Terms.{bannedAt, carriedAt, routeFound, tallied, Ready, Barred, Entered, Left, visited, walkFrom, Walks, isOpen, Took, Searched}
+use Rattle.theory.specs.Range.{upTo, up-next, up-on}
+use Rattle.theory.specs.Plan.{targetAt, costAt, IsWay, Planned, PlanOf}
+use Rattle.walk.specs.Terms.{walkedIn, routeIn, soFar, tallied, Standing, Barred, Entered, Barring, walkFrom}
+use Rattle.walk.specs.Terms.{Walks, isOpen, Took, Searched}
 use Rattle.walk.specs.Terms.Took.{stays, goes}
+
+-- ---- the two ways, and the two sides of a set of edges
+
+pub by-way : (P : ℕ → Type 0) → P 1 → P 2 → (way : ℕ) → IsWay way → P way
+by-way P j f zero (l, h) = let z : ⊥ = omega arith in absurd z
+by-way P j f (suc zero) w = j
+by-way P j f (suc (suc zero)) w = f
+by-way P j f (suc (suc (suc n))) (l, h) = let z : ⊥ = omega arith in absurd z
+
+pub by-jump : IsWay 1
+by-jump = (omega arith, omega arith)
+
+pub by-fall : IsWay 2
+by-fall = (omega arith, omega arith)
+
+-- what is done to both sides of a set of edges alike
+pub by-sides : (s r : Key) (done : (k side : ℕ) → Bool → Bool) → ((k : ℕ) → bit (r .0) k ≡ done k 1 (bit (s .0) k))
+    → ((k : ℕ) → bit (r .1) k ≡ done k 2 (bit (s .1) k))
+    → (k side : ℕ) → IsWay side → has r (k, side) ≡ done k side (has s (k, side))
+unfolding has
+by-sides s r done j f k = by-way (λ side. has r (k, side) ≡ done k side (has s (k, side))) (j k) (f k)
 
 -- ---- words
 
 -- a set with one more number, where the test holds
-pub put-is : (x k r : ℕ) (t : Bool) → x < 2 ^ 64 → r < 2 ^ 64 → k < 64 → ((j : ℕ) → bit r j ≡ (bit x j || (t && eqb j k))) → r ≡ cond t (bitOr x (2 ^ k)) x
+pub put-is : (x k r : ℕ) (t : Bool) → x < 2 ^ 64 → r < 2 ^ 64 → k < 64
+    → ((j : ℕ) → bit r j ≡ (bit x j || (t && eqb j k))) → r ≡ cond t (bitOr x (2 ^ k)) x
 put-is x k r true p q h bits = ext 64 q (or-lt 64 x (2 ^ k) p (pow-lt h)) (λ j l. bits j ∙ sym (bit-with x k j))
 put-is x k r false p q h bits = ext 64 q p (λ j l. bits j ∙ or-false (bit x j))
 
--- ---- the plan of a sound body is ready
+-- ---- where a way leads
 
-module _ (body : Body) (plan : List ℕ) (p : Planned body plan) (g : Sound body) where
-  by-jump : (b : ℕ) → b < body .count → wordAt plan b 0 < 64 → Mem (1, wordAt plan b 0) (exits body b)
-  by-jump b h l = rw (p .ways b h, lt-ltb (wordAt plan b 0) 64 l) (inl refl)
-
-  by-fall : (b : ℕ) → b < body .count → wordAt plan b 1 < 64 → Mem (2, wordAt plan b 1) (exits body b)
-  by-fall b h l = rw (p .ways b h, lt-ltb (wordAt plan b 1) 64 l) (last (ltb (wordAt plan b 0) 64))
+module _ {body : Body} {cost : ℕ → ℕ → ℕ} {plan : List ℕ} (p : Planned body cost plan) (g : Sound body) (b : ℕ)
+    (h : b < body .count) where
+  exit-by : (way : ℕ) → IsWay way → targetAt plan b way < 64 → Mem (way, targetAt plan b way) (exits body b)
+  exit-by = by-way (λ way. targetAt plan b way < 64 → Mem (way, targetAt plan b way) (exits body b))
+      (λ l. rw (p .ways b h, lt-ltb (targetAt plan b 1) 64 l) (inl refl))
+      (λ l. rw (p .ways b h, lt-ltb (targetAt plan b 2) 64 l) (last (ltb (targetAt plan b 1) 64)))
     where
-      last : (c : Bool) → Mem {A = ℕ × ℕ} (2, wordAt plan b 1) (cond c ((1, wordAt plan b 0) ∷ []) [] ++ ((2, wordAt plan b 1) ∷ []))
+      last : (c : Bool) → Mem {A = ℕ × ℕ} (2, targetAt plan b 2)
+          (cond c ((1, targetAt plan b 1) ∷ []) [] ++ ((2, targetAt plan b 2) ∷ []))
       last true = inr (inl refl)
       last false = inl refl
 
-  pub ready : ((b : ℕ) → block body b .cost ≤ 1000000) → Ready plan (body .count)
-  ready cheap = record {
-    size = p .size;
-    few = g .few;
-    jump-on = λ b h l. g .onward .above b (1, wordAt plan b 0) (by-jump b h l);
-    jump-inside = λ b h l. g .onward .inside b (1, wordAt plan b 0) (by-jump b h l);
-    fall-on = λ b h l. g .onward .above b (2, wordAt plan b 1) (by-fall b h l);
-    fall-inside = λ b h l. g .onward .inside b (2, wordAt plan b 1) (by-fall b h l);
-    cheap = λ b h. rw (p .costs b h) (cheap b);
-  }
+  -- to a block above
+  pub leads : (way : ℕ) → IsWay way → targetAt plan b way < 64
+      → (b < targetAt plan b way) × (targetAt plan b way < body .count)
+  leads way w l = (
+    g .onward .above b (way, targetAt plan b way) (exit-by way w l),
+    g .onward .inside b
+        (way, targetAt plan b way) (exit-by way w l),
+  )
 
 -- ---- the machine's state as words
 
@@ -76,76 +97,89 @@ only-tests false t w d h = refl
 test-of : {a t : Bool} → (t ≡ false → a ≡ false) → a ≡ true → t ≡ true
 test-of {a} {t} h y = split t (λ e. e) (λ e. clash y (h e))
 
-module _ (body : Body) (plan : List ℕ) (p : Planned body plan) (b : ℕ) (h : b < body .count) (at here : Stand) (bars : Barred body (bannedAt at)) (e : Entered plan b at here) where
-  pub entered-jump : (k : ℕ) → k < body .count → bit (here .jumps) k ≡ entered body b (bannedAt at) (k, 1)
-  unfolding has
-  entered-jump k l = e .jumps k ∙ rw (p .touched b k h l, p .denied-jumps b k h l)
-      (only-tests (bit (at .jumps) k) (isTest body k) (touches body b (condition body (k, 1) .variable)) (denies body b (k, 1)) (bars .jumps k l))
-
-  pub entered-fall : (k : ℕ) → k < body .count → bit (here .falls) k ≡ entered body b (bannedAt at) (k, 2)
-  unfolding has condition
-  entered-fall k l = e .falls k ∙ rw (p .touched b k h l, p .denied-falls b k h l)
-      (only-tests (bit (at .falls) k) (isTest body k) (touches body b (condition body (k, 2) .variable)) (denies body b (k, 2)) (bars .falls k l))
+module _ {body : Body} {cost : ℕ → ℕ → ℕ} {plan : List ℕ} (p : Planned body cost plan) (b : ℕ) (h : b < body .count)
+    (s here : Key) (bars : Barred body s) (e : Entered plan b s here) where
+  pub entered-here : (k side : ℕ) → IsWay side → k < body .count → has here (k, side) ≡ entered body b s (k, side)
+  unfolding condition
+  entered-here k side v l = e k side v ∙ rw (p .touched b k h l, p .denied b k side v h l)
+      (only-tests (has s (k, side)) (isTest body k) (touches body b (condition body (k, 1) .variable))
+      (denies body b (k, side)) (bars .tests k side v l))
 
   -- the state after a step, from its words
-  module _ (g : Sound body) (way : ℕ) (next : Stand) (l : Left plan b way here next)
-      (to-jumps : (k : ℕ) → k < body .count → bit (wordAt plan b (4 + 2 * way)) k ≡ opposes body (b, way) (k, 1))
-      (to-falls : (k : ℕ) → k < body .count → bit (wordAt plan b (5 + 2 * way)) k ≡ opposes body (b, way) (k, 2))
-      (no-jumps : (k : ℕ) → body .count ≤ k → bit (wordAt plan b (4 + 2 * way)) k ≡ false)
-      (no-falls : (k : ℕ) → body .count ≤ k → bit (wordAt plan b (5 + 2 * way)) k ≡ false) where
-    next-jump : (k : ℕ) → k < body .count → bit (next .jumps) k ≡ (entered body b (bannedAt at) (k, 1) || opposes body (b, way) (k, 1))
-    next-jump k i = l .jumps k ∙ ap₂ _||_ (entered-jump k i) (to-jumps k i)
+  module _ (g : Sound body) (way : ℕ) (w : IsWay way) (next : Key) (l : Barring plan b way here next) where
+    next-has : (k side : ℕ) → IsWay side → k < body .count
+        → has next (k, side) ≡ (entered body b s (k, side) || opposes body (b, way) (k, side))
+    next-has k side v i = l .edges k side v ∙ ap₂ _||_ (entered-here k side v i) (p .against b way k side w v h i)
 
-    next-fall : (k : ℕ) → k < body .count → bit (next .falls) k ≡ (entered body b (bannedAt at) (k, 2) || opposes body (b, way) (k, 2))
-    next-fall k i = l .falls k ∙ ap₂ _||_ (entered-fall k i) (to-falls k i)
+    next-past : (k side : ℕ) → IsWay side → body .count ≤ k → has next (k, side) ≡ false
+    next-past k side v i =
+        let (low, high) = v in
+        let (from, to) = w in
+        l .edges k side v ∙ or-none (e k side v
+        ∙ rw (bars .within k side v i) (p .within b (3 + side) k (omega arith) (omega arith) h i))
+        (p .within b (3 + 2 * way + side) k (omega arith) (omega arith) h i)
 
-    past-jump : (k : ℕ) → body .count ≤ k → bit (next .jumps) k ≡ false
-    past-jump k i = l .jumps k ∙ or-none (e .jumps k ∙ rw (bars .no-jumps k i) (p .within b 4 k (omega arith) (omega arith) h i)) (no-jumps k i)
+    pub next-banned : next ≡ banned body (b, way) s
+    unfolding banned has
+    next-banned =
+        edges-words (body .count) 64 (g .few) (λ x. entered body b s x || opposes body (b, way) x) (next .0) (next .1)
+        (l .small-jumps) (l .small-falls)
+        (λ k. next-has k 1 by-jump) (λ k. next-has k 2 by-fall) (λ k. next-past k 1 by-jump)
+        (λ k. next-past k 2 by-fall)
 
-    past-fall : (k : ℕ) → body .count ≤ k → bit (next .falls) k ≡ false
-    past-fall k i = l .falls k ∙ or-none (e .falls k ∙ rw (bars .no-falls k i) (p .within b 5 k (omega arith) (omega arith) h i)) (no-falls k i)
+    test-banned : (k side : ℕ) → (has s (k, side) ≡ true → isTest body k ≡ true)
+        → (entered body b s (k, side) || opposes body (b, way) (k, side)) ≡ true → isTest body k ≡ true
+    test-banned k side known t =
+        or-out (entered body b s (k, side)) _ t
+        (λ x. or-out (has s (k, side) && not (touches body b (condition body (k, side) .variable))) _ x
+        (λ y. known (and-out (has s (k, side)) _ y .0)) (λ y. test-of (λ f. denies-test body b (k, side) f) y))
+        (λ x. test-of (λ f. opposes-test body (b, way) (k, side) f) x)
 
-    pub next-banned : bannedAt next ≡ banned body (b, way) (bannedAt at)
-    unfolding banned
-    next-banned = edges-words (body .count) 64 (g .few) (λ x. entered body b (bannedAt at) x || opposes body (b, way) x) (next .jumps) (next .falls) (l .small-jumps) (l .small-falls) next-jump next-fall past-jump past-fall
-
-    test-banned : (s : Key) (k w : ℕ) → (has s (k, w) ≡ true → isTest body k ≡ true) → (entered body b s (k, w) || opposes body (b, way) (k, w)) ≡ true → isTest body k ≡ true
-    test-banned s k w known t =
-        or-out (entered body b s (k, w)) _ t
-        (λ x. or-out (has s (k, w) && not (touches body b (condition body (k, w) .variable))) _ x (λ y. known (and-out (has s (k, w)) _ y .0)) (λ y. test-of (λ f. denies-test body b (k, w) f) y))
-        (λ x. test-of (λ f. opposes-test body (b, way) (k, w) f) x)
-
-    pub next-bars : Barred body (bannedAt next)
-    unfolding has
+    pub next-bars : Barred body next
     next-bars = record {
-      jumps = λ k i t. test-banned (bannedAt at) k 1 (bars .jumps k i) (sym (next-jump k i) ∙ t);
-      falls = λ k i t. test-banned (bannedAt at) k 2 (bars .falls k i) (sym (next-fall k i) ∙ t);
-      no-jumps = past-jump;
-      no-falls = past-fall;
+      tests = λ k side v i t. test-banned k side (bars .tests k side v i) (sym (next-has k side v i) ∙ t);
+      within = next-past;
     }
 
-    pub next-carried : carriedAt next ≡ advance (stepCost body) (b, way) (carriedAt at)
-    next-carried = λ i. (
-      (l .weight ∙ ap₂ _+_ (e .weight) (p .costs b h)) i,
-      ((l .jumped ∙ ap (mark 1 (b, way)) (e .jumped)) i, (l .fallen ∙ ap (mark 2 (b, way)) (e .fallen)) i),
-    )
+    pub next-carried : (c on : Words) → on ≡ advance (costAt plan) (b, way) c → on ≡ advance cost (b, way) c
+    next-carried c on same = same ∙ λ i.
+        (c .0 + p .costs b way h i, (mark 1 (b, way) (c .1 .0), mark 2 (b, way) (c .1 .1)))
 
 -- ---- one more beginning
 
--- the tests: the budget is passed, the block is the last
-counts : (over last : Bool) (walked : ℕ) (kept : Option Words) (v : Words)
-    → cond over none (some (suc walked, cond last (keepFirst heavier kept v) kept)) ≡ tallyBy heavier over last (walked, kept) v
-counts true last walked kept v = refl
-counts false true walked kept v = refl
-counts false false walked kept v = refl
+module _ (prefers : ℕ → ℕ → Bool) where
+  -- the tests: the budget is passed, the block is the last
+  counts : (over last : Bool) (walked : ℕ) (kept : Option Words) (v : Words)
+      → cond over none (some (suc walked, cond last (keepFirst prefers kept v) kept)) ≡ tallyBy prefers over last
+      (walked, kept) v
+  counts true last walked kept v = refl
+  counts false true walked kept v = refl
+  counts false false walked kept v = refl
 
-pub visit-is : (plan : List ℕ) (count budget b : ℕ) (at : Stand) (found r : Found) (last : Bool) → eqb (suc b) count ≡ last → r .walked ≡ found .walked + 1
-    → routeFound r ≡ cond last (keepFirst heavier (routeFound found) (at .weight + wordAt plan b 2, (at .jumped, at .fallen))) (routeFound found)
-    → tallied budget r ≡ visited plan count budget b at found
-visit-is plan count budget b at found r last l w k =
-    (λ i. cond (ltb budget ((w ∙ add-one (found .walked)) i)) none (some ((w ∙ add-one (found .walked)) i, k i)))
-    ∙ counts (ltb budget (suc (found .walked))) last (found .walked) (routeFound found) (at .weight + wordAt plan b 2, (at .jumped, at .fallen))
-    ∙ ap (λ c. tallyBy heavier (ltb budget (suc (found .walked))) c (found .walked, routeFound found) (at .weight + wordAt plan b 2, (at .jumped, at .fallen))) (sym l)
+  pub visit-is : (cost : ℕ → ℕ → ℕ) (count budget b : ℕ) (c : Words) (found r : List ℕ) (last : Bool)
+      → eqb (suc b) count ≡ last → walkedIn r ≡ walkedIn found + 1
+      → routeIn r ≡ cond last (keepFirst prefers (routeIn found) (finish cost (b, c))) (routeIn found)
+      → tallied budget r ≡ tally prefers (finish cost) count budget (soFar found) (b, c)
+  visit-is cost count budget b c found r last l w k =
+      (λ i. cond (ltb budget ((w ∙ add-one (walkedIn found)) i)) none (some ((w ∙ add-one (walkedIn found)) i, k i)))
+      ∙ counts (ltb budget (suc (walkedIn found))) last (walkedIn found) (routeIn found) (finish cost (b, c))
+      ∙ ap (λ d. tallyBy prefers (ltb budget (suc (walkedIn found))) d (soFar found) (finish cost (b, c))) (sym l)
+
+-- ---- the words of what is found
+
+module _ (found : List ℕ) where
+  -- kept where it is no lighter
+  pub kept-old : (v : Words) → getD found 1 0 ≡ 1 → v .0 ≤ getD found 2 0
+      → routeIn found ≡ keepFirst heavier (routeIn found) v
+  kept-old v e h = rw (eq-eqb (getD found 1 0) 1 e, le-ltb (getD found 2 0) (v .0) h)
+
+  pub kept-new : (v : Words) → (getD found 1 0 ≡ 1 → getD found 2 0 < v .0)
+      → some v ≡ keepFirst heavier (routeIn found) v
+  kept-new v h = by (eqb (getD found 1 0) 1) refl
+    where
+      by : (any : Bool) → eqb (getD found 1 0) 1 ≡ any → some v ≡ keepFirst heavier (routeIn found) v
+      by true e = rw (e, lt-ltb (getD found 2 0) (v .0) (h (eqb-true (getD found 1 0) 1 e)))
+      by false e = rw e
 
 -- ---- the turn
 
@@ -158,136 +192,204 @@ module _ {A : Type 0} where
   then-assoc none f g = refl
   then-assoc (some a) f g = refl
 
-module _ (body : Body) (budget b : ℕ) (s : Key) (c : Words) where
+module _ (prefers : ℕ → ℕ → Bool) (body : Body) (cost : ℕ → ℕ → ℕ) (budget b : ℕ) (s : Key) (c : Words) where
+  abbrev counted : ℕ × Option Words → ℕ × Words → Option (ℕ × Option Words)
+  counted = tally prefers (finish cost) (body .count) budget
+
   -- by an exit of block b
   abbrev taken : (way target : ℕ) → ℕ × Option Words → Option (ℕ × Option Words)
-  taken way target a =
-      ifStep (onMachine body (stepCost body)) (advance (stepCost body)) (tally heavier (finish (stepCost body)) (body .count) budget) (stepOn body (b, way) s)
-      (λ u. walkFrom body budget target u (advance (stepCost body) (b, way) c)) a
+  taken way target a = ifStep (onMachine body cost) (advance cost) counted (stepOn body (b, way) s)
+      (λ u. walkFrom prefers body cost budget target u (advance cost (b, way) c)) a
 
   -- by a way of block b, where it has one
   abbrev pub byWay : (way target : ℕ) → ℕ × Option Words → Option (ℕ × Option Words)
   byWay way target a = cond (ltb target 64) (taken way target a) (some a)
 
   abbrev branches : List (ℕ × ℕ) → ℕ × Option Words → Option (ℕ × Option Words)
-  branches os a = branch (onMachine body (stepCost body)) (advance (stepCost body)) (tally heavier (finish (stepCost body)) (body .count) budget) (λ t u e. walkFrom body budget t u e) b s c os a
+  branches os a = branch (onMachine body cost) (advance cost) counted
+      (λ t u e. walkFrom prefers body cost budget t u e) b s c os a
 
   two-ways : (w v : Bool) (t u : ℕ) (a : ℕ × Option Words)
-      → branches (cond w ((1, t) ∷ []) [] ++ cond v ((2, u) ∷ []) []) a ≡ andThen (cond w (taken 1 t a) (some a)) (λ d. cond v (taken 2 u d) (some d))
+      → branches (cond w ((1, t) ∷ []) [] ++ cond v ((2, u) ∷ []) []) a ≡ andThen (cond w (taken 1 t a) (some a))
+      (λ d. cond v (taken 2 u d) (some d))
   two-ways true true t u a = λ i. andThen (taken 1 t a) (λ d. then-some (taken 2 u d) i)
   two-ways true false t u a = refl
   two-ways false true t u a = then-some (taken 2 u a)
   two-ways false false t u a = refl
 
-  turn : Sound body → (plan : List ℕ) → Planned body plan → b < body .count → (a : ℕ × Option Words)
-      → walkFrom body budget b s c a
-      ≡ andThen (tally heavier (finish (stepCost body)) (body .count) budget a (b, c)) (λ d. andThen (byWay 1 (wordAt plan b 0) d) (byWay 2 (wordAt plan b 1)))
+  turn : Sound body → (plan : List ℕ) → Planned body cost plan → b < body .count → (a : ℕ × Option Words)
+      → walkFrom prefers body cost budget b s c a ≡ andThen (counted a (b, c))
+      (λ d. andThen (byWay 1 (targetAt plan b 1) d) (byWay 2 (targetAt plan b 2)))
   turn g plan p h a =
-      walk-eq (onMachine body (stepCost body)) (record { on = g .onward .above; inside = g .onward .inside }) (advance (stepCost body)) (tally heavier (finish (stepCost body)) (body .count) budget) b s c a h
-      ∙ λ i. andThen (tally heavier (finish (stepCost body)) (body .count) budget a (b, c))
-      (λ d. (ap (λ os. branches os d) (p .ways b h) ∙ two-ways (ltb (wordAt plan b 0) 64) (ltb (wordAt plan b 1) 64) (wordAt plan b 0) (wordAt plan b 1) d) i)
+      walk-eq (onMachine body cost) (record { on = g .onward .above; inside = g .onward .inside })
+      (advance cost) counted b s c a h
+      ∙ λ i. andThen (counted a (b, c))
+      (λ d. (ap (λ os. branches os d) (p .ways b h)
+      ∙ two-ways (ltb (targetAt plan b 1) 64) (ltb (targetAt plan b 2) 64) (targetAt plan b 1) (targetAt plan b 2) d) i)
 
   -- the tests: the budget is passed, the way exists, its edge is banned
-  by-way : (way target : ℕ) (first next : Found) (over is shut : Bool) → ltb budget (first .walked) ≡ over → ltb target 64 ≡ is → entered body b s (b, way) ≡ shut
+  way-is : (way target : ℕ) (first next : List ℕ) (over is shut : Bool) → ltb budget (walkedIn first) ≡ over
+      → ltb target 64 ≡ is → entered body b s (b, way) ≡ shut
       → (((is && not shut) && not over) ≡ false → next ≡ first)
-      → (((is && not shut) && not over) ≡ true → tallied budget next ≡ walkFrom body budget target (banned body (b, way) s) (advance (stepCost body) (b, way) c) (first .walked, routeFound first))
+      → (((is && not shut) && not over) ≡ true
+      → tallied budget next ≡ walkFrom prefers body cost budget target (banned body (b, way) s)
+      (advance cost (b, way) c) (soFar first))
       → tallied budget next ≡ andThen (tallied budget first) (byWay way target)
-  by-way way target first next true is shut p q r same more = ap (tallied budget) (same (and-false (is && not shut))) ∙ rw p
-  by-way way target first next false false shut p q r same more = ap (tallied budget) (same refl) ∙ rw (p, q)
-  by-way way target first next false true true p q r same more = ap (tallied budget) (same refl) ∙ rw (p, q, r)
-  by-way way target first next false true false p q r same more = more refl ∙ rw (p, q, r)
+  way-is way target first next true is shut p q r same more = ap (tallied budget) (same (and-false (is && not shut)))
+      ∙ rw p
+  way-is way target first next false false shut p q r same more = ap (tallied budget) (same refl) ∙ rw (p, q)
+  way-is way target first next false true true p q r same more = ap (tallied budget) (same refl) ∙ rw (p, q, r)
+  way-is way target first next false true false p q r same more = more refl ∙ rw (p, q, r)
 
 -- ---- what the recursion owes, from its two ways
 
-module _ (body : Body) (plan : List ℕ) (p : Planned body plan) (g : Sound body) (budget b : ℕ) (h : b < body .count) (at here : Stand) (bars : Barred body (bannedAt at)) (e : Entered plan b at here) where
-  -- one way: its own words, and whether its edge is banned
-  one-way : (way target word : ℕ)
-      → bit word b ≡ entered body b (bannedAt at) (b, way)
-      → ((k : ℕ) → k < body .count → bit (wordAt plan b (4 + 2 * way)) k ≡ opposes body (b, way) (k, 1))
-      → ((k : ℕ) → k < body .count → bit (wordAt plan b (5 + 2 * way)) k ≡ opposes body (b, way) (k, 2))
-      → ((k : ℕ) → body .count ≤ k → bit (wordAt plan b (4 + 2 * way)) k ≡ false)
-      → ((k : ℕ) → body .count ≤ k → bit (wordAt plan b (5 + 2 * way)) k ≡ false)
-      → (found r : Found) → Took plan (body .count) budget b way target word here found r
-      → tallied budget r ≡ andThen (tallied budget found) (byWay body budget b (bannedAt at) (carriedAt at) way target)
-  one-way way target word here-bit js fs nj nf found r (stays o same) =
-      by-way body budget b (bannedAt at) (carriedAt at) way target found r _ _ _ refl refl (sym here-bit) (λ _. same) (λ t. clash t o)
-  one-way way target word here-bit js fs nj nf found r (goes o next l walks) =
-      by-way body budget b (bannedAt at) (carriedAt at) way target found r _ _ _ refl refl (sym here-bit) (λ f. clash o f)
-      (λ _. walks body p g refl (next-bars body plan p b h at here bars e g way next l js fs nj nf)
-      ∙ λ i. walkFrom body budget target (next-banned body plan p b h at here bars e g way next l js fs nj nf i) (next-carried body plan p b h at here bars e g way next l js fs nj nf i) (found .walked, routeFound found))
+module _ (prefers : ℕ → ℕ → Bool) {body : Body} {cost : ℕ → ℕ → ℕ} {plan : List ℕ} (p : Planned body cost plan)
+    (g : Sound body) (budget b : ℕ) (h : b < body .count) (s here : Key) (c : Words)
+    (bars : Barred body s) (e : Entered plan b s here) where
+  abbrev by : ℕ → ℕ × Option Words → Option (ℕ × Option Words)
+  by way = byWay prefers body cost budget b s c way (targetAt plan b way)
 
-  all-ways : (found first second r : Found) → tallied budget first ≡ visited plan (body .count) budget b here found
-      → Took plan (body .count) budget b 1 (wordAt plan b 0) (here .jumps) here first second
-      → Took plan (body .count) budget b 2 (wordAt plan b 1) (here .falls) here second r
-      → tallied budget r ≡ walkFrom body budget b (bannedAt at) (carriedAt at) (found .walked, routeFound found)
+  one-way : (way : ℕ) (w : IsWay way) (found r : List ℕ) → Took prefers plan (body .count) budget b way here c found r
+      → tallied budget r ≡ andThen (tallied budget found) (by way)
+  one-way way w found r (stays o same) =
+      way-is prefers body cost budget b s c way (targetAt plan b way) found r _ _ _ refl refl
+      (sym (entered-here p b h s here bars e b way w h)) (λ _. same) (λ t. clash t o)
+  one-way way w found r (goes o next l on carried walks) =
+      way-is prefers body cost budget b s c way (targetAt plan b way) found r _ _ _ refl refl
+      (sym (entered-here p b h s here bars e b way w h)) (λ f. clash o f)
+      (λ _. walks body cost p g refl (next-bars p b h s here bars e g way w next l)
+      ∙ λ i. walkFrom prefers body cost budget (targetAt plan b way) (next-banned p b h s here bars e g way w next l i)
+      (next-carried p b h s here bars e g way w next l c on carried i) (soFar found))
+
+  all-ways : (found first second r : List ℕ)
+      → tallied budget first ≡ tally prefers (finish (costAt plan)) (body .count) budget (soFar found) (b, c)
+      → Took prefers plan (body .count) budget b 1 here c first second
+      → Took prefers plan (body .count) budget b 2 here c second r
+      → tallied budget r ≡ walkFrom prefers body cost budget b s c (soFar found)
   all-ways found first second r v j f =
-      one-way 2 (wordAt plan b 1) (here .falls) (entered-fall body plan p b h at here bars e b h)
-      (λ k. p .fall-jumps b k h) (λ k. p .fall-falls b k h) (λ k. p .within b 8 k (omega arith) (omega arith) h) (λ k. p .within b 9 k (omega arith) (omega arith) h) second r f
-      ∙ ap (λ o. andThen o (fall)) (one-way 1 (wordAt plan b 0) (here .jumps) (entered-jump body plan p b h at here bars e b h)
-      (λ k. p .jump-jumps b k h) (λ k. p .jump-falls b k h) (λ k. p .within b 6 k (omega arith) (omega arith) h) (λ k. p .within b 7 k (omega arith) (omega arith) h) first second j)
-      ∙ then-assoc (tallied budget first) jump fall
-      ∙ ap (λ o. andThen o (λ d. andThen (jump d) fall)) (v ∙ same)
-      ∙ sym (turn body budget b (bannedAt at) (carriedAt at) g plan p h (found .walked, routeFound found))
+      one-way 2 by-fall second r f
+      ∙ ap (λ o. andThen o (by 2)) (one-way 1 by-jump first second j)
+      ∙ then-assoc (tallied budget first) (by 1) (by 2)
+      ∙ ap (λ o. andThen o (λ d. andThen (by 1 d) (by 2))) (v ∙ same)
+      ∙ sym (turn prefers body cost budget b s c g plan p h (soFar found))
     where
-      jump : ℕ × Option Words → Option (ℕ × Option Words)
-      jump = byWay body budget b (bannedAt at) (carriedAt at) 1 (wordAt plan b 0)
+      same : tally prefers (finish (costAt plan)) (body .count) budget (soFar found) (b, c)
+          ≡ tally prefers (finish cost) (body .count) budget (soFar found) (b, c)
+      same = λ i. tallyBy prefers (ltb budget (suc (walkedIn found))) (eqb (suc b) (body .count)) (soFar found)
+          (c .0 + p .costs b 0 h i, c .1)
 
-      fall : ℕ × Option Words → Option (ℕ × Option Words)
-      fall = byWay body budget b (bannedAt at) (carriedAt at) 2 (wordAt plan b 1)
+module _ (prefers : ℕ → ℕ → Bool) {plan : List ℕ} {count budget b : ℕ} where
+  pub walks : b < count → (s here : Key) (c : Words) → Entered plan b s here → (found first second r : List ℕ)
+      → tallied budget first ≡ tally prefers (finish (costAt plan)) count budget (soFar found) (b, c)
+      → Took prefers plan count budget b 1 here c first second → Took prefers plan count budget b 2 here c second r
+      → Walks prefers plan count budget b s c found r
+  walks h s here c e found first second r v j f body cost p g size bars =
+      all-ways prefers p g budget b (rw size h) s here c bars e found first second r (rw size v)
+      (subst (λ n. Took prefers plan n budget b 1 here c first second) (sym size) j)
+      (subst (λ n. Took prefers plan n budget b 2 here c second r) (sym size) f)
 
-      same : visited plan (body .count) budget b here found ≡ tally heavier (finish (stepCost body)) (body .count) budget (found .walked, routeFound found) (b, carriedAt at)
-      same = λ i. tallyBy heavier (ltb budget (suc (found .walked))) (eqb (suc b) (body .count)) (found .walked, routeFound found) (ap₂ _+_ (e .weight) (p .costs b h) i, (e .jumped i, e .fallen i))
+-- what a way comes to, from the test of the code and its call
+pub open-is : (plan : List ℕ) (b way : ℕ) (here : Key) (walked budget : ℕ) {target : ℕ} {banned o : Bool}
+    → target ≡ targetAt plan b way → has here (b, way) ≡ banned
+    → o ≡ isOpen target banned walked budget → isOpen (targetAt plan b way) (has here (b, way)) walked budget ≡ o
+open-is plan b way here walked budget is edge test = (λ i. isOpen (sym is i) (edge i) walked budget) ∙ sym test
 
-pub walks : (plan : List ℕ) (count budget b : ℕ) → b < count → (at here : Stand) → Entered plan b at here → (found first second r : Found)
-    → tallied budget first ≡ visited plan count budget b here found
-    → Took plan count budget b 1 (wordAt plan b 0) (here .jumps) here first second
-    → Took plan count budget b 2 (wordAt plan b 1) (here .falls) here second r
-    → Walks plan count budget b at found r
-walks plan count budget b h at here e found first second r v j f body p g size bars =
-    all-ways body plan p g budget b (rw size h) at here bars e found first second r (rw size v)
-    (subst (λ n. Took plan n budget b 1 (wordAt plan b 0) (here .jumps) here first second) (sym size) j)
-    (subst (λ n. Took plan n budget b 2 (wordAt plan b 1) (here .falls) here second r) (sym size) f)
+pub took-goes : {prefers : ℕ → ℕ → Bool} {plan : List ℕ} {count budget b way : ℕ} {here next : Key} {c on : Words}
+    {found s r : List ℕ} {target : ℕ}
+    → isOpen (targetAt plan b way) (has here (b, way)) (walkedIn found) budget ≡ true → target ≡ targetAt plan b way
+    → Barring plan b way here next → on ≡ advance (costAt plan) (b, way) c
+    → Walks prefers plan count budget target next on found s → r ≡ s
+    → Took prefers plan count budget b way here c found r
+took-goes {prefers = prefers} {plan = plan} {count = count} {budget = budget} {b = b} {way = way} {here = here}
+    {next = next} {c = c} {on = on} {found = found} {s = s} o is l carried walked same =
+    subst (λ f. Took prefers plan count budget b way here c found f) (sym same)
+    (goes o next l on carried (subst (λ n. Walks prefers plan count budget n next on found s) is walked))
 
--- what a way comes to, from the test and the call
-module _ {plan : List ℕ} {count budget b way word banned : ℕ} {here : Stand} {found r : Found} where
-  pub took-goes : {target : ℕ} {o : Bool} {next : Stand} {s : Found} → target ≡ word → o ≡ isOpen target banned b (found .walked) budget → o ≡ true
-      → Left plan b way here next → Walks plan count budget target next found s → r ≡ s → Took plan count budget b way word banned here found r
-  took-goes {target = target} {next = next} is test t l walked same =
-      subst (λ n. Took plan count budget b way n banned here found r) is
-      (subst (λ f. Took plan count budget b way target banned here found f) (sym same) (goes (sym test ∙ t) next l walked))
+-- the edges that a side's word has
+pub jump-edge : (s : Key) (k : ℕ) → has s (k, 1) ≡ bit (s .0) k
+unfolding has
+jump-edge s k = refl
 
-  pub took-stays : {target : ℕ} {o : Bool} → target ≡ word → o ≡ isOpen target banned b (found .walked) budget → o ≡ false → r ≡ found → Took plan count budget b way word banned here found r
-  took-stays is test f same = subst (λ n. Took plan count budget b way n banned here found r) is (stays (sym test ∙ f) same)
+pub fall-edge : (s : Key) (k : ℕ) → has s (k, 2) ≡ bit (s .1) k
+unfolding has
+fall-edge s k = refl
 
--- what a call at the target may count on
-pub onward : (plan : List ℕ) (count budget b target w banned : ℕ) (at here next : Stand) (found : Found) → Ready plan count → b < count
-    → target ≡ wordAt plan b w → (wordAt plan b w < 64 → b < wordAt plan b w) → (wordAt plan b w < 64 → wordAt plan b w < count)
-    → isOpen target banned b (found .walked) budget ≡ true → at .weight ≤ 1000000 * b → here .weight ≡ at .weight → next .weight ≡ here .weight + wordAt plan b 2
-    → (count - target < count - b) × ((target < count) × ((next .weight ≤ 1000000 * target) × (found .walked ≤ budget)))
-onward plan count budget b target w banned at here next found ready h is on inside o few same more =
-    let (p, q) = and-out (ltb target 64 && not (bit banned b)) (not (ltb budget (found .walked))) o in
-    let l : wordAt plan b w < 64 = omega (arith, ltb-true target 64 (and-out (ltb target 64) _ p .0)) in
-    let above = on l in
-    let below = inside l in
-    let cost = ready .cheap b h in
-    let left = ltb-false budget (found .walked) (not-out (ltb budget (found .walked)) q) in
-    (omega arith, (omega arith, (omega arith, omega arith)))
+-- ---- what a block of the walk may count on
+
+module _ {plan : List ℕ} {count budget b weight : ℕ} {before : List ℕ}
+    (s : Standing plan count budget b weight before) where
+  own : b < s .of .body .count
+  own = omega (arith, s .inside, s .of .size)
+
+  -- a step's cost keeps the weight to what the blocks up to this one come to
+  pub costs-few : (way : ℕ) → (b < 64) × (weight + costAt plan b way ≤ upTo (s .of .range .most) (suc b))
+      × (weight + costAt plan b way < 2 ^ 64)
+  costs-few way =
+      let most = s .of .range .most in
+      let next = up-next most b in
+      let all = up-on most (suc b) (s .of .body .count) (own) in
+      let cost = s .of .planned .costs b way own in
+      let each = s .of .range .each b way own in (
+        omega (arith, own, s .of .sound .few),
+        omega (arith, next, cost, each, s .small),
+        omega (arith, next, all, cost, each, s .small, s .of .range .all),
+      )
+
+  pub open-leads : (way : ℕ) → IsWay way → (banned : Bool) (walked : ℕ)
+      → isOpen (targetAt plan b way) banned walked budget ≡ true
+      → (b < targetAt plan b way) × (targetAt plan b way < count) × (walked ≤ budget)
+  open-leads way w banned walked o =
+      let (p, q) = and-out (ltb (targetAt plan b way) 64 && not banned) (not (ltb budget walked)) o in
+      let (above, inside) = leads (s .of .planned) (s .of .sound) b own way w
+      (ltb-true (targetAt plan b way) 64 (and-out (ltb (targetAt plan b way) 64) _ p .0)) in
+      (above, omega (arith, inside, s .of .size), ltb-false budget walked (not-out (ltb budget walked) q))
+
+  -- a call at the target
+  pub onward : (way : ℕ) → IsWay way → (target : ℕ) → target ≡ targetAt plan b way → (here : Key) (found : List ℕ)
+      → isOpen (targetAt plan b way) (has here (b, way)) (walkedIn found) budget ≡ true
+      → (on : ℕ) → on ≡ weight + costAt plan b way
+      → (count - target < count - b) × Standing plan count budget target on found
+  onward way w target is here found o on more =
+      let (above, inside, left) = open-leads way w (has here (b, way)) (walkedIn found) o in
+      let few = costs-few way .1 in
+      let below = up-on (s .of .range .most) (suc b) target (omega arith) in (
+        omega (arith, s .inside),
+        record {
+          of = s .of;
+          inside = omega arith;
+          small = omega arith;
+          counted = left;
+          fits = s .fits;
+        },
+      )
+
+  -- the last block has no way on
+  pub took-none : {prefers : ℕ → ℕ → Bool} (way : ℕ) → IsWay way → (here : Key) (c : Words) (found : List ℕ)
+      → b + 1 ≡ count → Took prefers plan count budget b way here c found found
+  took-none way w here c found last =
+      stays (is-false (isOpen (targetAt plan b way) (has here (b, way)) (walkedIn found) budget)
+      (λ o. let (above, inside, left) = open-leads way w (has here (b, way)) (walkedIn found) o in omega arith)) refl
 
 -- ---- from block 0 on
 
-abbrev pub start : Stand
-start = record { jumps = 0; falls = 0; weight = 0; jumped = 0; fallen = 0 }
+abbrev pub none-found : List ℕ
+none-found = 0 ∷ 0 ∷ 0 ∷ 0 ∷ 0 ∷ []
 
-abbrev pub nothing : Found
-nothing = record { walked = 0; any = false; weight = 0; jumped = 0; fallen = 0 }
+pub standing-first : (plan : List ℕ) (count budget : ℕ) → PlanOf plan count → budget < 4294967296
+    → Standing plan count budget 0 0 none-found
+standing-first plan count budget of fits = record {
+  of = of;
+  inside = omega (arith, of .sound .some, of .size);
+  small = omega arith;
+  counted = omega arith;
+  fits = fits;
+}
 
-pub searched : (plan : List ℕ) (count budget : ℕ) (r : Found) → Walks plan count budget 0 start nothing r → Searched plan count budget r
-searched plan count budget r w body p g size = w body p g size free ∙ walk-answer body g (stepCost body) heavier heaviest budget
+pub searched : (prefers : ℕ → ℕ → Bool) → Choice prefers → (plan : List ℕ) (count budget : ℕ) (r : List ℕ)
+    → Walks prefers plan count budget 0 noEdges nothing none-found r
+    → Searched prefers plan count budget r
+searched prefers ch plan count budget r w body cost p g size = w body cost p g size free
+    ∙ walk-answer body g cost prefers ch budget
   where
     free : Barred body noEdges
-    free = record {
-      jumps = λ k l t. clash t (bit-none k);
-      falls = λ k l t. clash t (bit-none k);
-      no-jumps = λ k l. bit-none k;
-      no-falls = λ k l. bit-none k;
-    }
+    free = record { tests = λ k side v l t. clash t (has-none (k, side)); within = λ k side v l. has-none (k, side) }

@@ -1,6 +1,5 @@
--- The full walk. Trusted: Answer. The terms of its contracts, the laws of a turn, the ends, and that its promise leaves one answer.
+-- The full walk. Trusted: Answer. The terms of its contracts, the laws of a turn, the ends.
 pub mod Answer
 pub mod Terms
 pub mod Laws
 pub mod Ends
-pub mod Promise

@@ -3,12 +3,14 @@ use mathlib.Core.Path.{_≡_, refl, sym, ap, ap₂, _∙_, subst}
 use mathlib.Core.Logic.{_⊎_, inl, inr}
 use mathlib.Core.Bool.{Bool, true, false, not, _&&_, _||_, and-true, and-false, or-false, or-assoc}
 use mathlib.Core.List.{List, map}
-use Prim.Native.Nat.{ℕ, zero, suc, _+_, _-_, _^_, _≤_, _<_}
+use Prim.Native.Nat.{ℕ, zero, suc, _+_, _-_, _*_, _^_, _≤_, _<_}
 use native.Mathlib.Nat.{zero-add, pow-suc}
 use native.Mathlib.Numerals.{add-one}
 use native.Mathlib.Omega.{arith}
 use borrow.Author.Tests.{eqb-true, eqb-false, eq-eqb, ne-eqb, ltb-true, ltb-false, lt-ltb, le-ltb, le-leb, lt-leb, leb-true, leb-false}
 use lib.Dec.{eqb, ltb, leb}
+use mir.Syntax.{w64}
+use mir.Val.{Fits}
 use lib.ListN.{length, getD, set, length-set}
 use lib.Seq.{getD-set-same, getD-set-other, ext-getD}
 use Rattle.words.specs.Tabled.{tabled, rows}
@@ -105,6 +107,37 @@ module _ {A : Type 0} (z : A) (P : ℕ → A → Type 0) (n : ℕ) where
   -- what a list tells in other words
   pub told-as : (Q : ℕ → A → Type 0) (l : List A) → Told z P n n l → ((b : ℕ) (x : A) → b < n → P b x → Q b x) → Told z Q n n l
   told-as Q l inv f = record { size = inv .size; at = λ b k. f b (getD l b z) k (inv .at b k) }
+
+-- ---- places of arrays: cited where the context is too large to look through
+
+pub in-room : {m n i : ℕ} → m ≡ n → i < n → i < m
+in-room size h = omega arith
+
+-- a place's distance in bytes fits a word
+pub fits-8 : {i : ℕ} → i < 256 → Fits w64 (i * 8)
+fits-8 h = omega arith
+
+pub fits-4 : {i : ℕ} → i < 256 → Fits w64 (i * 4)
+fits-4 h = omega arith
+
+pub below-256 : {i : ℕ} → i < 64 → i < 256
+below-256 h = omega arith
+
+pub fits-small : {n : ℕ} → n ≤ 256 → Fits w64 n
+fits-small h = omega arith
+
+pub fits-byte : {n : ℕ} → n < 256 → Fits w64 n
+fits-byte h = omega arith
+
+-- the next place, and what is left after it
+pub fits-next : {i : ℕ} → i < 256 → Fits w64 (i + 1)
+fits-next h = omega arith
+
+pub next-within : {n i : ℕ} → i < n → i + 1 ≤ n
+next-within h = omega arith
+
+pub less-left : (n : ℕ) {i : ℕ} → i < n → n - (i + 1) < n - i
+less-left n h = omega arith
 
 -- ---- a list that is told whole
 

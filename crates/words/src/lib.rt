@@ -59,6 +59,13 @@ pub fn less(a: u64, b: u64) -> u64
     a & !b
 }
 
+// What is in a and not in b, and what is in c.
+pub fn renewed(a: u64, b: u64, c: u64) -> u64
+    ensures { λ r. ⌜ ((j : ℕ) → bit r j ≡ (bit a j && not (bit b j)) || bit c j) ⌝ }
+{
+    either(less(a, b), c)
+}
+
 // The least number in x; 0 where there is none.
 pub fn lowest(x: u64) -> usize
     ensures { λ r. ⌜ (r < 64) × (r ≡ least x) ⌝ }

@@ -1,12 +1,11 @@
 //! The pair test, and conflict lists worked out by hand, among them the cases where trainees go wrong.
 
-use std::fs;
-
 use by_listing::calls::{conflicts, Listing, NoAnswer};
 use by_listing::conflict::{
     conditions_conflict, edge_condition, meets, opposite, Condition, ASSIGNMENT_PAIR, AT_LEAST, AT_MOST,
     EDGE_PAIR, EQUAL, GREATER, LESS, NOT_EQUAL,
 };
+use by_listing::example::example_file;
 use by_listing::form::{Block, Effect, Parts, Refusal};
 use by_listing::tally::Tally;
 use by_listing::ways::Way;
@@ -260,15 +259,21 @@ fn lent_bytes(tally: &mut Tally) {
     tally.equal("the reader's refusals come first", conflicts(&[], &mut []), Err(refused));
 }
 
-/// Figure 1 of document 003, where the examples have it: an assignment conflicts with one edge of a test, an earlier edge
-/// with the other, and nothing else conflicts.
+/// Figure 1 of document 003: an assignment conflicts with one edge of a test, an earlier edge with the other, and nothing
+/// else conflicts. The example's form and list must be there, and the list's bytes are those of the example's.
 fn figure_1(tally: &mut Tally) {
-    let Ok(form) = fs::read(concat!(env!("CARGO_MANIFEST_DIR"), "/../examples/figure1.form")) else {
-        println!("figure 1: the examples have no figure1.form");
-        return;
+    let files = example_file("figure1.form").and_then(|form| Ok((form, example_file("figure1.list")?)));
+    let (form, wanted) = match files {
+        Ok(both) => both,
+        Err(why) => return tally.check(false, || format!("figure 1: {why}")),
     };
+    let mut bytes = vec![0; wanted.len()];
+    tally.equal("figure 1: the list's length", conflicts(&form, &mut bytes), Ok(wanted.len()));
+    tally.equal("figure 1: the list's bytes", bytes, wanted);
     let listing = Listing::of(&form);
-    let list = listing.list().expect("figure 1 is a form with few ways");
+    let Ok(list) = listing.list() else {
+        return tally.check(false, || "figure 1: the form has no list".to_string());
+    };
     let mut kinds: Vec<u8> = list.iter().map(|entry| entry.kind).collect();
     kinds.sort();
     tally.equal("figure 1: kinds of pairs", kinds, vec![ASSIGNMENT_PAIR, EDGE_PAIR]);

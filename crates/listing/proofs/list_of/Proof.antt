@@ -6,16 +6,21 @@ use native.Mathlib.Omega.{arith}
 use lib.ListN.{length}
 use lib.Seq.{sets}
 use Rattle.form.specs.Conflict.{conflictBytes}
-use Rattle.listing.specs.Listing.{number-is, bytes-are, too-few, enough, has-room, from-start}
+use Rattle.sets.specs.Worded.{worded}
+use Rattle.path_sets.specs.Finding.{found-told}
+use Rattle.listing.specs.Listing.{found-rows, number-is, bytes-are, too-few, enough, has-room, from-start}
 use borrow.Author.Needs.{needs}
 use Rattle.listing.proofs.list_of.Statement.{statement}
 use Rattle.listing.proofs.list_of.Tie as tie
 
 find-requires : tie.Need-find-requires
-find-requires c κs = search needs
+find-requires c κs = worded (c .before .before .args .body) (c .before .before .pre) _ (c .local-of .ensures)
 
 found-number-requires : tie.Need-found-number-requires
-found-number-requires c κs = search needs
+found-number-requires c κs =
+    let local = c .before in
+    let start = local .before .before in
+    found-rows _ _ (found-told (start .args .body) (start .pre .few) _ (c .find .ensures (start .args .body) (start .pre) (local .local-of .ensures)))
 
 mul-bytes : tie.Need-mul-bytes
 mul-bytes c = search needs
@@ -23,23 +28,23 @@ mul-bytes c = search needs
 returns : tie.Need-returns
 returns c =
     let number = c .before in
-    let f = number .before .find .ensures in
-    let start = number .before .before .before in
+    let found = number .before in
+    let local = found .before in
+    let start = local .before .before in
+    let f = found-told (start .args .body) (start .pre .few) _ (found .find .ensures (start .args .body) (start .pre) (local .local-of .ensures)) in
     let is = number .found-number .ensures .0 ∙ number-is (start .args .body) (start .pre .few) _ _ _ (f .variables) (f .jumped) (f .fallen) in
     (too-few (start .args .body) _ _ is (c .if1 .taken), refl)
 
 found-entries-requires : tie.Need-found-entries-requires
 found-entries-requires c κs =
     let number = c .before .before in
-    let f = number .before .find .ensures in
-    let start = number .before .before .before in
+    let found = number .before in
+    let local = found .before in
+    let start = local .before .before in
+    let f = found-told (start .args .body) (start .pre .few) _ (found .find .ensures (start .args .body) (start .pre) (local .local-of .ensures)) in
     let is = number .found-number .ensures .0 ∙ number-is (start .args .body) (start .pre .few) _ _ _ (f .variables) (f .jumped) (f .fallen) in
     let same = bytes-are (start .args .body) (start .pre .few) _ _ _ (f .variables) (f .jumped) (f .fallen) in (
-      record {
-        variables = f .variables .size;
-        first = (f .jumped .assigned .size, (f .jumped .jumps .size, f .jumped .falls .size));
-        second = (f .fallen .assigned .size, (f .fallen .jumps .size, f .fallen .falls .size));
-      },
+      found-rows _ _ f,
       omega (arith, ap length same, has-room (start .args .body) _ (length (start .args .out .now)) is (c .before .if1 .left)),
     )
 
@@ -50,8 +55,10 @@ returns-2 : tie.Need-returns-2
 returns-2 c =
     let wrote = c .before .before in
     let number = wrote .before .before .before in
-    let f = number .before .find .ensures in
-    let start = number .before .before .before in
+    let found = number .before in
+    let local = found .before in
+    let start = local .before .before in
+    let f = found-told (start .args .body) (start .pre .few) _ (found .find .ensures (start .args .body) (start .pre) (local .local-of .ensures)) in
     let body = start .args .body in
     let is = number .found-number .ensures .0 ∙ number-is body (start .pre .few) _ _ _ (f .variables) (f .jumped) (f .fallen) in
     let same = bytes-are body (start .pre .few) _ _ _ (f .variables) (f .jumped) (f .fallen) in
@@ -64,6 +71,7 @@ pub list-of-spec : {M : Type 1} → statement M
 list-of-spec =
     tie.close
     (tie.spec
+    (λ c κs. search needs)
     find-requires
     found-number-requires
     mul-bytes

@@ -1,4 +1,4 @@
--- `edges::alike_rows` meets its contract. The loop's invariant: the rows below b are right. The measure is what is left of the 64.
+-- `local_sets::alike_rows` meets its contract. The loop's invariant: the rows below b are right. The measure is what is left of the 64.
 use mathlib.Core.Path.{_≡_, refl, ap₂, _∙_}
 use mathlib.Core.Bool.{_&&_}
 use Prim.Native.Nat.{_-_, _≤_}

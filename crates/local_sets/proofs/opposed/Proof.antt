@@ -1,4 +1,4 @@
--- `edges::opposed` meets its contract. The loop's invariant: the word has those of the set that are not left. The measure is what is left.
+-- `local_sets::opposed` meets its contract. The loop's invariant: the word has those of the set that are not left. The measure is what is left.
 use mathlib.Core.Path.{_≡_, _∙_}
 use mathlib.Core.Bool.{not}
 use Prim.Native.Nat.{ℕ, _^_, _<_}

@@ -1,4 +1,4 @@
--- `edges::opposed_rows` meets its contract. The loop's invariant: the rows below b are right. The measure is what is left of the 64.
+-- `local_sets::opposed_rows` meets its contract. The loop's invariant: the rows below b are right. The measure is what is left of the 64.
 use mathlib.Core.Path.{refl}
 use Prim.Native.Nat.{_-_, _≤_}
 use native.Mathlib.Omega.{arith}
@@ -37,7 +37,7 @@ shared-slice-read-opposed-2 : tie.Need-shared-slice-read-opposed-2 Inv-loop μ-l
 shared-slice-read-opposed-2 c = omega arith
 
 opposed-requires : tie.Need-opposed-requires Inv-loop μ-loop
-opposed-requires c κs = (c .before .before .before .before .before .before .before .before .pre .1 .falls, c .before .before .before .before .before .before .before .before .pre .1 .constants)
+opposed-requires c κs = c .before .before .before .before .before .before .before .before .pre .1 .1
 
 mul-r : tie.Need-mul-r Inv-loop μ-loop
 mul-r c = omega arith

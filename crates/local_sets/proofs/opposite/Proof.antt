@@ -1,4 +1,4 @@
--- `edges::opposite` meets its contract.
+-- `local_sets::opposite` meets its contract.
 use mathlib.Core.Path.{_≡_, refl}
 use native.Mathlib.Omega.{arith}
 use Rattle.form.specs.Relation.{opposite}

@@ -1,4 +1,4 @@
--- `edges::own_block` meets its contract.
+-- `local_sets::own_block` meets its contract.
 use borrow.Author.Tests.{lt-ltb, le-ltb}
 use Rattle.local_sets.proofs.own_block.Statement.{statement}
 use Rattle.local_sets.proofs.own_block.Tie as tie

@@ -1,4 +1,4 @@
--- `edges::tests_by_variable` meets its contract. The loop's invariant: the tests below i are sorted. The measure is what is left of the 64.
+-- `local_sets::tests_by_variable` meets its contract. The loop's invariant: the tests below i are sorted. The measure is what is left of the 64.
 use mathlib.Core.Path.{refl}
 use Prim.Native.Nat.{_-_, _≤_}
 use native.Mathlib.Omega.{arith}
@@ -58,7 +58,7 @@ loop-again c =
 returns : tie.Need-returns Inv-loop μ-loop
 returns c =
     let start = c .before .before .before in
-    on-variable-end (start .args .tests) (start .args .variable .now) _ _ (start .fits .tests .fits) (c .loop-test .left) (c .before .loop .inv .1)
+    on-variable-end (start .args .tests) (start .args .variable .now) _ _ (start .fits .tests .fits) (λ j. c .before .before .shared-slice-known .given j .fits) (c .loop-test .left) (c .before .loop .inv .1)
 
 pub tests-by-variable-spec : {M : Type 1} → statement M
 tests-by-variable-spec =

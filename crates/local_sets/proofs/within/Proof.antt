@@ -1,4 +1,4 @@
--- `edges::within` meets its contract.
+-- `local_sets::within` meets its contract.
 use mathlib.Core.Logic.{inl, inr}
 use mathlib.Core.Path.{refl}
 use native.Mathlib.Omega.{arith}

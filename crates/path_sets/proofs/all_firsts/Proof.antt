@@ -1,4 +1,4 @@
--- `conflict::all_firsts` meets its contract. The loop's invariant: the rows below s are right. The measure is what is left of the 64.
+-- `path_sets::all_firsts` meets its contract. The loop's invariant: the rows below s are right. The measure is what is left of the 64.
 use mathlib.Core.Path.{refl, ap, _∙_}
 use mathlib.Core.Bool.{Bool, _||_}
 use Prim.Native.Nat.{_-_, _≤_}

@@ -1,4 +1,4 @@
--- `conflict::firsts_of` meets its contract. The loop's invariant: the rows below s are right. The measure is what is left of the 64.
+-- `path_sets::firsts_of` meets its contract. The loop's invariant: the rows below s are right. The measure is what is left of the 64.
 use mathlib.Core.Path.{refl, ap, _∙_}
 use mathlib.Core.Bool.{Bool, _&&_, and-false}
 use Prim.Native.Nat.{ℕ, _-_, _≤_}
@@ -27,7 +27,7 @@ loop-holds : tie.Need-loop-holds Inv-loop μ-loop
 loop-holds c = (omega arith, told-none _ _ _ _ refl, told-none _ _ _ _ refl, told-none _ _ _ _ refl)
 
 reach-if-requires : tie.Need-reach-if-requires Inv-loop μ-loop
-reach-if-requires c κs = let p = c .before .before .before .before .before .before .before .before .before .pre in ((p .0 .0, (p .0 .1 .0, (p .0 .1 .1, p .1 .0 .0))), (omega arith, p .1 .1))
+reach-if-requires c κs = let p = c .before .before .before .before .before .before .before .before .before .pre in (p .0, (p .1 .0, omega arith))
 
 mul-assigned : tie.Need-mul-assigned Inv-loop μ-loop
 mul-assigned c = omega arith

@@ -1,4 +1,4 @@
--- `conflict::listed_rows` meets its contract. The loop's invariant: the rows below b are right, and the word has those with a first below b. The measure is
+-- `path_sets::listed_rows` meets its contract. The loop's invariant: the rows below b are right, and the word has those with a first below b. The measure is
 -- what is left of the 64.
 use mathlib.Core.Path.{_≡_, refl, sym, ap, _∙_}
 use mathlib.Core.Bool.{Bool, _||_}

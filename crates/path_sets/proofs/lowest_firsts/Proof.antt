@@ -1,4 +1,4 @@
--- `conflict::lowest_firsts` meets its contract. The loop's invariant: the edges below s are sorted. The measure is what is left of the 64.
+-- `path_sets::lowest_firsts` meets its contract. The loop's invariant: the edges below s are sorted. The measure is what is left of the 64.
 use mathlib.Core.Path.{refl, _∙_}
 use mathlib.Core.Bool.{not}
 use Prim.Native.Nat.{_-_, _≤_}

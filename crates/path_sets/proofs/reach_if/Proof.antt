@@ -1,4 +1,4 @@
--- `conflict::reach_if` meets its contract.
+-- `path_sets::reach_if` meets its contract.
 use mathlib.Core.Path.{refl}
 use Rattle.laws.specs.Tests.{clash}
 use borrow.Author.Needs.{needs}

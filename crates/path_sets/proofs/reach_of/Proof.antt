@@ -1,4 +1,4 @@
--- `conflict::reach_of` meets its contract. The loop's invariant: the blocks from b on are done. The measure is b.
+-- `path_sets::reach_of` meets its contract. The loop's invariant: the blocks from b on are done. The measure is b.
 use mathlib.Core.Path.{_≡_, subst}
 use Prim.Native.Nat.{ℕ, _+_, _-_, _≤_}
 use native.Mathlib.Omega.{arith}
@@ -20,7 +20,7 @@ add-b c = omega (arith, c .before .before .before .before .pre)
 loop-holds : tie.Need-loop-holds Inv-loop μ-loop
 loop-holds c =
     let p = c .before .before .before .before .pre in
-    (omega arith, reaching-none _ _ _ _ _ (p .0 .0) (p .0 .1 .0) (p .1 .0) (p .1 .1 .0) (p .1 .1 .1))
+    (omega arith, reaching-none _ _ _ _ _ (p .0) (p .1 .1))
 
 sub-b : tie.Need-sub-b Inv-loop μ-loop
 sub-b c = omega arith
@@ -86,7 +86,7 @@ loop-again c =
     let b = at .loop .b - 1 in
     let down : at .loop .b ≡ b + 1 = omega arith in (
       omega arith,
-      reaching-more (a .jump .now) (a .fall .now) (a .touched .now) (a .denied .now) (a .s) (p .0 .0) (p .0 .1 .0) (p .1 .0) (p .1 .1 .0) (p .1 .1 .1) b _ _ _ _ _ _ _ _ _ _ _ _ (omega arith)
+      reaching-more (a .jump .now) (a .fall .now) (a .touched .now) (a .denied .now) (a .s) (p .0) (p .1 .1) b _ _ _ _ _ _ _ _ _ _ _ _ (omega arith)
           (subst (λ (i : ℕ). Reaching (a .jump .now) (a .fall .now) (a .touched .now) (a .denied .now) (a .s) i (at .loop .clean) (at .loop .by-jump) (at .loop .by-fall) (at .loop .assigned)) down (at .loop .inv .1))
           (jump .has .ensures) (fall .has2 .ensures) (touched .has3 .ensures) (denied .has4 .ensures) (c .put4 .ensures) (c .before .before .before .put .ensures) (c .before .before .put2 .ensures) (c .before .put3 .ensures),
     )

@@ -17,30 +17,6 @@ abbrev μ-loop : tie.MeasureT-loop
 loop-holds : tie.Need-loop-holds Inv-loop μ-loop
 loop-holds c = (paste-zero (c .args .plan .now) (16 * c .args .b) (c .args .row .now), omega arith)
 
-mul-plan : tie.Need-mul-plan Inv-loop μ-loop
-mul-plan c = omega arith
-
-shared-slice-read-plan : tie.Need-shared-slice-read-plan Inv-loop μ-loop
-shared-slice-read-plan c = omega arith
-
-mul-plan-2 : tie.Need-mul-plan-2 Inv-loop μ-loop
-mul-plan-2 c = omega arith
-
-add-plan : tie.Need-add-plan Inv-loop μ-loop
-add-plan c = omega arith
-
-mul-plan-3 : tie.Need-mul-plan-3 Inv-loop μ-loop
-mul-plan-3 c = omega arith
-
-slice-write-plan : tie.Need-slice-write-plan Inv-loop μ-loop
-slice-write-plan c = omega arith
-
-add-w : tie.Need-add-w Inv-loop μ-loop
-add-w c = omega arith
-
-loop-less : tie.Need-loop-less Inv-loop μ-loop
-loop-less c = omega arith
-
 loop-again : tie.Need-loop-again Inv-loop μ-loop
 loop-again c =
     let at-loop = c .before .before in
@@ -62,5 +38,5 @@ returns c =
 pub put-row-spec : {M : Type 1} → statement M
 put-row-spec =
     tie.close
-    (tie.spec Inv-loop μ-loop loop-holds mul-plan shared-slice-read-plan mul-plan-2 add-plan mul-plan-3 slice-write-plan add-w loop-less
+    (tie.spec Inv-loop μ-loop loop-holds (λ c. omega arith) (λ c. omega arith) (λ c. omega arith) (λ c. omega arith) (λ c. omega arith) (λ c. omega arith) (λ c. omega arith) (λ c. omega arith)
     loop-again same-length returns)

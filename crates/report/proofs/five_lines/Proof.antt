@@ -1,6 +1,6 @@
 -- `report::five_lines` meets its contract: five lines, one behind the other, over the body that is read and the entries of its list. Assumes nothing.
 use native.Mathlib.Omega.{arith}
-use Rattle.report.specs.Adding.{then}
+use Rattle.lent.specs.Adding.{then}
 use Rattle.report.specs.Parts.{read-count}
 use borrow.Author.Needs.{needs}
 use Rattle.report.proofs.five_lines.Statement.{statement}

@@ -1,6 +1,6 @@
 -- `report::three_lines` meets its contract: three lines, one behind the other. Assumes nothing.
 use native.Mathlib.Omega.{arith}
-use Rattle.report.specs.Adding.{then}
+use Rattle.lent.specs.Adding.{then}
 use borrow.Author.Needs.{needs}
 use Rattle.report.proofs.three_lines.Statement.{statement}
 use Rattle.report.proofs.three_lines.Tie as tie

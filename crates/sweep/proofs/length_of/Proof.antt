@@ -1,4 +1,4 @@
--- `routes::sweep::length_of` meets its contract.
+-- `sweep::length_of` meets its contract.
 use mathlib.Core.Path.{sym}
 use native.Mathlib.Omega.{arith}
 use lib.ListN.{List·getD-eq-default}
@@ -19,5 +19,4 @@ returns-2 : tie.Need-returns-2
 returns-2 c = sym (List·getD-eq-default (c .before .args .lengths .now) 0 (omega arith))
 
 pub length-of-spec : {M : Type 1} → statement M
-length-of-spec =
-    tie.close (tie.spec mul-result shared-slice-read-result returns returns-2)
+length-of-spec = tie.close (tie.spec mul-result shared-slice-read-result returns returns-2)

@@ -1,78 +1,54 @@
--- `routes::walk::walk` meets its contract, case by case of the reader's verdict.
-use mathlib.Core.Path.{sym, ap, subst}
-use native.Mathlib.Omega.{arith}
-use Rattle.form.specs.declared.Body.{Body}
-use Rattle.theory.specs.Plan.{Planned}
-use Rattle.plan.specs.Accepted.{read-counted, plan-of, few-iterations}
-use Rattle.roundtrip.specs.Read.{read-accepted, read-as, read-body, read-sound}
-use Rattle.walk.specs.Ends.{unread}
+-- `walk::walk` meets its contract: the refusal that the start is, or the planned walk.
+use Rattle.form.specs.Form.{bodyOf}
+use Rattle.roundtrip.specs.Sound.{sound}
+use Rattle.theory.specs.Route.{stepCost, dearest}
+use Rattle.plan.specs.Prepared.{start-owed, start-plan, start-few}
+use Rattle.walk.specs.Answer.{refused, walkOutcome}
+use Rattle.walk.specs.Ends.{started, not-started}
 use borrow.Author.Needs.{needs}
 use Rattle.walk.proofs.walk.Statement.{statement}
 use Rattle.walk.proofs.walk.Tie as tie
 
-read-requires : tie.Need-read-requires
-read-requires c κs = search needs
-
-enum-known-verdict : tie.Need-enum-known-verdict
-enum-known-verdict c = search needs
+prepare-requires : tie.Need-prepare-requires
+prepare-requires c κs = search needs
 
 refuse-requires : tie.Need-refuse-requires
 refuse-requires c κs = search needs
 
-enum-told : tie.Need-enum-told
-enum-told c = search needs
-
-plan-of-requires : tie.Need-plan-of-requires
-plan-of-requires c κs =
-    let read = c .before .before .before .read in
-    read-sound (c .before .before .before .before .before .before .args .form .now) (read .result) (read .ensures) (c .enum-told .given .1)
-
-count-of-requires : tie.Need-count-of-requires
-count-of-requires c κs = search needs
-
-slice-aggregate-walk-counted : tie.Need-slice-aggregate-walk-counted
-slice-aggregate-walk-counted c = search needs
-
-walk-counted-requires : tie.Need-walk-counted-requires
-walk-counted-requires c κs =
-    let start = c .before .before .before .before .before .before .before .before .before .before .before in
-    let read = c .before .before .before .before .before .before .before .before .read in
-    let verdict = c .before .before .before .before .before .enum-told .given .1 in (
-      plan-of (start .args .form .now) (read .result) (read .ensures) verdict (c .before .before .before .before .plan-of .ensures),
-      (few-iterations (start .args .form .now) (read .result) (read .ensures) verdict (c .before .before .count-of .result) (c .before .before .count-of .ensures), omega arith),
-    )
-
 returns : tie.Need-returns
 returns c =
-    let start = c .before .before .before .before .before .before .before .before in
-    let read = c .before .before .before .before .before .read in
-    unread (start .args .form .now) (start .args .budget) (start .args .route .now) (read-as (start .args .form .now) (read .result) (read .ensures) _ (c .before .before .verdict .given .1)) (c .refuse .ensures)
+    let a = c .before .before .before .before .before .before .args in
+    not-started (a .form .now) (a .budget) (a .route .now) (c .before .before .before .prepare .result)
+    (c .before .before .before .prepare .ensures) (c .before .if1 .taken) (c .refuse .ensures)
+
+walk-planned-requires : tie.Need-walk-planned-requires
+walk-planned-requires c κs =
+    let form = c .before .before .before .before .before .before .before .before .args .form .now in
+    let ready = c .before .before .before .before .before .prepare in
+    let s = started form (ready .result) (ready .ensures) (c .before .before .before .if1 .left) in (
+      start-plan form _ _ _ s,
+      (
+        start-few form _ _ _ s,
+        c .before .before .before .before .before .before .before .before .fits .budget .fits,
+      ),
+    )
 
 same-length : tie.Need-same-length
 same-length c = search needs
 
 returns-2 : tie.Need-returns-2
 returns-2 c =
-    let start = c .before .before .before .before .before .before .before .before .before .before .before .before .before .before in
-    let read = c .before .before .before .before .before .before .before .before .before .before .before .read in
-    let verdict = c .before .before .before .before .before .before .before .before .enum-told .given .1 in
-    let s = start .args .form .now in
-    let is = read-body s (read .result) (read .ensures) verdict in
-    c .before .before .walk-counted .ensures s (read-accepted s (read .result) (read .ensures) verdict) (subst (λ (b : Body). Planned b (c .before .before .before .before .before .before .before .plan-of .result)) is (c .before .before .before .before .before .before .before .plan-of .ensures)) (ap (λ (b : Body). b .count) (sym is))
-    (read-counted s (read .result) (read .ensures) verdict (c .before .before .before .before .before .count-of .result) (c .before .before .before .before .before .count-of .ensures))
+    let a = c .before .before .before .before .before .before .before .before .before .before .before .args in
+    let form = a .form .now in
+    let ready = c .before .before .before .before .before .before .before .before .prepare in
+    let s = started form (ready .result) (ready .ensures)
+    (c .before .before .before .before .before .before .if1 .left) in
+    start-owed form _ _ _ s (refused (a .route .now))
+    (walkOutcome (bodyOf form) (dearest (bodyOf form)) (a .budget) (a .route .now)) _
+    (c .before .before .walk-planned .ensures (bodyOf form) (stepCost (bodyOf form)) (s .planned)
+    (sound form (s .accepted)) (s .size))
 
 pub walk-spec : {M : Type 1} → statement M
 walk-spec =
     tie.close
-    (tie.spec
-    read-requires
-    enum-known-verdict
-    refuse-requires
-    enum-told
-    plan-of-requires
-    count-of-requires
-    slice-aggregate-walk-counted
-    walk-counted-requires
-    returns
-    same-length
-    returns-2)
+    (tie.spec prepare-requires refuse-requires returns walk-planned-requires same-length returns-2)

@@ -10,23 +10,14 @@ use borrow.Author.Needs.{needs}
 use Rattle.plan.proofs.route.byte_of.Statement.{statement}
 use Rattle.plan.proofs.route.byte_of.Tie as tie
 
-add-if1 : tie.Need-add-if1
-add-if1 c = search needs
-
 returns : tie.Need-returns
 returns c = rw (eq-eqb (suc (c .before .args .b)) (c .before .args .count) (omega arith))
-
-has-requires : tie.Need-has-requires
-has-requires c κs = search needs
 
 returns-2 : tie.Need-returns-2
 returns-2 c =
     let start = c .before .before .before in
     let inner : eqb (suc (start .args .b)) (start .args .count) ≡ false = ne-eqb (suc (start .args .b)) (start .args .count) (λ e. c .before .before .if1 .left (add-one (start .args .b) ∙ e)) in
     rw (inner, sym (c .before .has .ensures) ∙ c .if2 .taken)
-
-has-requires-2 : tie.Need-has-requires-2
-has-requires-2 c κs = search needs
 
 returns-3 : tie.Need-returns-3
 returns-3 c =
@@ -42,4 +33,4 @@ returns-4 c =
 
 pub byte-of-spec : {M : Type 1} → statement M
 byte-of-spec =
-    tie.close (tie.spec add-if1 returns has-requires returns-2 has-requires-2 returns-3 returns-4)
+    tie.close (tie.spec (λ c. search needs) returns (λ c κs. search needs) returns-2 (λ c κs. search needs) returns-3 returns-4)

@@ -16,18 +16,6 @@ abbrev μ-loop : tie.MeasureT-loop
 loop-holds : tie.Need-loop-holds Inv-loop μ-loop
 loop-holds c = written-none (c .before .args .count) (c .before .args .jumped) (c .before .args .fallen) (c .before .args .route .now)
 
-byte-of-requires : tie.Need-byte-of-requires Inv-loop μ-loop
-byte-of-requires c κs = omega arith
-
-slice-write-route : tie.Need-slice-write-route Inv-loop μ-loop
-slice-write-route c = omega arith
-
-add-b : tie.Need-add-b Inv-loop μ-loop
-add-b c = omega arith
-
-loop-less : tie.Need-loop-less Inv-loop μ-loop
-loop-less c = omega arith
-
 loop-again : tie.Need-loop-again Inv-loop μ-loop
 loop-again c =
     let turn = c .before in
@@ -45,4 +33,4 @@ returns c =
     (refl, written-all (start .args .count) (start .args .jumped) (start .args .fallen) (start .args .route .now) (at .loop .route) (at .loop .b) (c .loop-test .left) (at .loop .inv))
 
 pub write-route-spec : {M : Type 1} → statement M
-write-route-spec = tie.close (tie.spec Inv-loop μ-loop loop-holds byte-of-requires slice-write-route add-b loop-less loop-again same-length returns)
+write-route-spec = tie.close (tie.spec Inv-loop μ-loop loop-holds (λ c κs. omega arith) (λ c. omega arith) (λ c. omega arith) (λ c. omega arith) loop-again same-length returns)

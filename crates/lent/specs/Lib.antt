@@ -1,0 +1,2 @@
+-- Bytes put into lent memory behind what stands there.
+pub mod Adding

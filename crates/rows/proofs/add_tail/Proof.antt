@@ -1,0 +1,70 @@
+-- `rows::add_tail` meets its contract.
+use mathlib.Core.Path.{sym, subst}
+use mathlib.Core.List.{List}
+use native.Mathlib.Omega.{arith}
+use Rattle.theory.specs.Row.{Key}
+use Rattle.theory.specs.SweepWords.{Words}
+use Rattle.rows.specs.Entries.{entriesFrom, Grown}
+use Rattle.rows.specs.Structs.{tupleOf}
+use Rattle.rows.specs.Rows.{grown-none, pushed-dropped, pushed-kept}
+use borrow.Author.Needs.{needs}
+use Rattle.rows.proofs.add_tail.Statement.{statement}
+use Rattle.rows.proofs.add_tail.Tie as tie
+
+hits-requires : tie.Need-hits-requires
+hits-requires c κs = search needs
+
+hits-requires-2 : tie.Need-hits-requires-2
+hits-requires-2 c κs = search needs
+
+returns : tie.Need-returns
+returns c =
+    let both = c .before in
+    let start = both .before .before .before in
+    let a = start .args in
+    let r = entriesFrom (a .row .now) 0 (a .held) in
+    subst (λ (l : List (Key × Words)). Grown l (a .row .now) (a .row .now) (a .held))
+    (sym (pushed-dropped (a .jumps) (a .falls) (a .cost) (tupleOf (a .tail)) r (both .before .hits .result) (both .hits2 .result) (both .before .hits .ensures) (both .hits2 .ensures) (c .if1 .taken)))
+    (grown-none (a .row .now) (a .held) (start .pre .0 .1))
+
+add-t10 : tie.Need-add-t10
+add-t10 c = search needs
+
+opened-requires : tie.Need-opened-requires
+opened-requires c κs = search needs
+
+opened-requires-2 : tie.Need-opened-requires-2
+opened-requires-2 c κs = search needs
+
+insert-requires : tie.Need-insert-requires
+insert-requires c κs = search needs
+
+same-length : tie.Need-same-length
+same-length c = search needs
+
+returns-2 : tie.Need-returns-2
+returns-2 c =
+    let put = c .before .before in
+    let opens = put .before .before in
+    let kept = opens .before .before .before .before .before .before .before .before in
+    let both = kept .before in
+    let a = both .before .before .before .args in
+    let r = entriesFrom (a .row .now) 0 (a .held) in
+    subst (λ (l : List (Key × Words)). Grown l (a .row .now) (put .insert .last .0) (put .insert .result))
+    (sym (pushed-kept (a .jumps) (a .falls) (a .cost) (tupleOf (a .tail)) r (both .before .hits .result) (both .hits2 .result) (both .before .hits .ensures) (both .hits2 .ensures)
+    (opens .before .opened .result) (opens .opened2 .result) (opens .before .opened .ensures) (opens .opened2 .ensures) (kept .if1 .left)))
+    (put .insert .ensures)
+
+pub add-tail-spec : {M : Type 1} → statement M
+add-tail-spec =
+    tie.close
+    (tie.spec
+    hits-requires
+    hits-requires-2
+    returns
+    add-t10
+    opened-requires
+    opened-requires-2
+    insert-requires
+    same-length
+    returns-2)

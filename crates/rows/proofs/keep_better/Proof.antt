@@ -1,0 +1,50 @@
+-- `rows::keep_better` meets its contract.
+use mathlib.Core.Path.{refl, ap, _∙_}
+use Rattle.rows.specs.Entries.{betterOf, entryPut, picked, passed-by}
+use Rattle.rows.specs.Structs.{wordsIn, tupleOf}
+use Rattle.rows.specs.declared.Entry.{Entry}
+use borrow.Author.Needs.{needs}
+use Rattle.rows.proofs.keep_better.Statement.{statement}
+use Rattle.rows.proofs.keep_better.Tie as tie
+
+entry-at-requires : tie.Need-entry-at-requires
+entry-at-requires c κs = search needs
+
+better-requires : tie.Need-better-requires
+better-requires c κs = search needs
+
+put-entry-requires : tie.Need-put-entry-requires
+put-entry-requires c κs = search needs
+
+same-length : tie.Need-same-length
+same-length c = search needs
+
+returns : tie.Need-returns
+returns c =
+    let put = c .before .before in
+    let judged = put .before .before .before in
+    let read = judged .before in
+    let a = read .before .before .before .args in
+    picked (a .row .now) (judged .better .ensures ∙ ap (λ (e : Entry). betterOf (tupleOf (a .e) .1) (wordsIn (e .way))) (read .entry-at .ensures)) (put .before .before .if1 .taken) (put .put-entry .ensures)
+
+same-length-2 : tie.Need-same-length-2
+same-length-2 c = search needs
+
+returns-2 : tie.Need-returns-2
+returns-2 c =
+    let judged = c .before in
+    let read = judged .before in
+    let a = read .before .before .before .args in
+    passed-by (entryPut (a .row .now) (a .p) (tupleOf (a .e))) (judged .better .ensures ∙ ap (λ (e : Entry). betterOf (tupleOf (a .e) .1) (wordsIn (e .way))) (read .entry-at .ensures)) (c .if1 .left) refl
+
+pub keep-better-spec : {M : Type 1} → statement M
+keep-better-spec =
+    tie.close
+    (tie.spec
+    entry-at-requires
+    better-requires
+    put-entry-requires
+    same-length
+    returns
+    same-length-2
+    returns-2)

@@ -1,0 +1,32 @@
+-- `rows::squeeze_in` meets its contract.
+use mathlib.Core.Path.{sym, subst}
+use mathlib.Core.List.{List}
+use Prim.Native.Nat.{ℕ}
+use native.Mathlib.Omega.{arith}
+use Rattle.rows.specs.Entries.{Squeezed, squeezed}
+use Rattle.rows.specs.Structs.{tupleOf}
+use borrow.Author.Needs.{needs}
+use Rattle.rows.proofs.squeeze_in.Statement.{statement}
+use Rattle.rows.proofs.squeeze_in.Tie as tie
+
+open-gap-requires : tie.Need-open-gap-requires
+open-gap-requires c κs = search needs
+
+put-entry-requires : tie.Need-put-entry-requires
+put-entry-requires c κs = search needs
+
+same-length : tie.Need-same-length
+same-length c = search needs
+
+returns : tie.Need-returns
+returns c =
+    let put = c .before .before in
+    let gap = put .before .before .before .before in
+    let start = gap .before .before .before in
+    let a = start .args in
+    let e = tupleOf (a .e) in
+    subst (λ (m : List ℕ). Squeezed (a .row .now) m (a .p) (a .held) e) (sym (put .put-entry .ensures))
+    (squeezed (a .row .now) (gap .open-gap .last .0) (a .p) (a .held) e (start .pre .0) (omega (arith, start .pre .1, gap .open-gap .kept .0)) (gap .open-gap .ensures))
+
+pub squeeze-in-spec : {M : Type 1} → statement M
+squeeze-in-spec = tie.close (tie.spec open-gap-requires put-entry-requires same-length returns)

@@ -1,0 +1,101 @@
+-- `sweep::conclude` meets its contract, case by case.
+use native.Mathlib.Omega.{arith}
+use mathlib.Core.Path.{_≡_}
+use Prim.Native.Nat.{ℕ, _≤_}
+use Rattle.sweep.specs.Ends.{unstarted, few-bytes, few-entries, crowd, all-rows}
+use borrow.Author.Needs.{needs}
+use Rattle.sweep.proofs.conclude.Statement.{statement}
+use Rattle.sweep.proofs.conclude.Tie as tie
+
+zero : {n : ℕ} → n ≤ 0 → n ≡ 0
+zero h = omega arith
+
+refuse-requires : tie.Need-refuse-requires
+refuse-requires c κs = search needs
+
+returns : tie.Need-returns
+returns c =
+    let a = c .before .before .before .before .args in
+    unstarted (a .ready) (a .entries) (a .swept) (a .t4) (a .route .now) (c .before .if1 .taken) (c .refuse .ensures)
+
+refuse-requires-2 : tie.Need-refuse-requires-2
+refuse-requires-2 c κs = search needs
+
+returns-2 : tie.Need-returns-2
+returns-2 c =
+    let some = c .before .before in
+    let a = some .before .before .before .args in
+    few-bytes (a .ready) (a .entries) (a .swept) (a .t4) (a .route .now) (some .if1 .left) (c .before .if2 .taken) (c .refuse2 .ensures)
+
+mul-if3 : tie.Need-mul-if3
+mul-if3 c = search needs
+
+mul-refuse : tie.Need-mul-refuse
+mul-refuse c = search needs
+
+refuse-requires-3 : tie.Need-refuse-requires-3
+refuse-requires-3 c κs = search needs
+
+returns-3 : tie.Need-returns-3
+returns-3 c =
+    let bytes = c .before .before in
+    let a = bytes .before .before .before .before .args in
+    few-entries (a .ready) (a .entries) (a .swept) (a .t4) (a .route .now) (bytes .before .if1 .left) (bytes .if2 .left) (c .before .if3 .taken) (c .refuse3 .ensures)
+
+enum-known-swept : tie.Need-enum-known-swept
+enum-known-swept c = search needs
+
+refuse-requires-4 : tie.Need-refuse-requires-4
+refuse-requires-4 c κs = search needs
+
+enum-known-swept-2 : tie.Need-enum-known-swept-2
+enum-known-swept-2 c = search needs
+
+slice-aggregate-answer : tie.Need-slice-aggregate-answer
+slice-aggregate-answer c = search needs
+
+answer-requires : tie.Need-answer-requires
+answer-requires c κs =
+    let told = c .before .before .before in
+    let memory = told .before .before in
+    let start = memory .before .before .before .before .before in
+    ((memory .before .if2 .left, (search needs, start .pre .1 .0 (zero (memory .before .before .if1 .left)))), λ h. start .pre .1 .1 _ _ (told .swept2 .given .1) h)
+
+returns-4 : tie.Need-returns-4
+returns-4 c =
+    let told = c .before .before in
+    let memory = told .before .before in
+    let a = memory .before .before .before .before .before .args in
+    crowd (a .ready) (a .entries) (a .swept) (a .t4) (a .route .now) (memory .before .before .if1 .left) (memory .before .if2 .left) (memory .if3 .left) (told .swept .given .1) (c .refuse4 .ensures)
+
+same-length : tie.Need-same-length
+same-length c = search needs
+
+returns-5 : tie.Need-returns-5
+returns-5 c =
+    let made = c .before .before in
+    let told = made .before .before .before .before in
+    let memory = told .before .before in
+    let a = memory .before .before .before .before .before .args in
+    all-rows (a .ready) (a .entries) (a .swept) (a .t4) (a .route .now) (memory .before .before .if1 .left) (memory .before .if2 .left) (memory .if3 .left) (told .swept2 .given .1) (made .answer .ensures)
+
+pub conclude-spec : {M : Type 1} → statement M
+conclude-spec =
+    tie.close
+    (tie.spec
+    refuse-requires
+    returns
+    refuse-requires-2
+    returns-2
+    mul-if3
+    mul-refuse
+    refuse-requires-3
+    returns-3
+    enum-known-swept
+    refuse-requires-4
+    enum-known-swept-2
+    slice-aggregate-answer
+    answer-requires
+    returns-4
+    same-length
+    returns-5)

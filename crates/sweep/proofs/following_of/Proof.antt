@@ -1,0 +1,29 @@
+-- `sweep::following_of` meets its contract.
+use Rattle.sweep.specs.Driven.{following-over, following-more}
+use borrow.Author.Needs.{needs}
+use Rattle.sweep.proofs.following_of.Statement.{statement}
+use Rattle.sweep.proofs.following_of.Tie as tie
+
+returns : tie.Need-returns
+returns c = let a = c .before .before .args in following-over (a .at) (a .found) (c .if1 .taken)
+
+sub-b : tie.Need-sub-b
+sub-b c = search needs
+
+mul-lengths : tie.Need-mul-lengths
+mul-lengths c = search needs
+
+array-write-lengths : tie.Need-array-write-lengths
+array-write-lengths c = search needs
+
+greater-requires : tie.Need-greater-requires
+greater-requires c κs = search needs
+
+returns-2 : tie.Need-returns-2
+returns-2 c =
+    let a = c .before .before .before .before .args in
+    following-more (a .at) (a .found) (c .before .before .if1 .left) (c .greater .result) (c .greater .ensures)
+
+pub following-of-spec : {M : Type 1} → statement M
+following-of-spec =
+    tie.close (tie.spec returns sub-b mul-lengths array-write-lengths greater-requires returns-2)

@@ -1,0 +1,33 @@
+-- `line` meets its contract: a word, a number and a line end, one behind the other. Assumes nothing.
+use native.Mathlib.Omega.{arith}
+use Rattle.lent.specs.Adding.{then}
+use borrow.Author.Needs.{needs}
+use Rattle.text.proofs.line.Statement.{statement}
+use Rattle.text.proofs.line.Tie as tie
+
+put-requires : tie.Need-put-requires
+put-requires c κs = search needs
+
+number-requires : tie.Need-number-requires
+number-requires c κs = search needs
+
+slice-aggregate-put : tie.Need-slice-aggregate-put
+slice-aggregate-put c = search needs
+
+put-requires-2 : tie.Need-put-requires-2
+put-requires-2 c κs = search needs
+
+same-length : tie.Need-same-length
+same-length c = search needs
+
+returns : tie.Need-returns
+returns c =
+    let third = c .before .before in
+    let second = third .before .before .before .before .before in
+    let first = second .before .before .before .before in
+    (then (first .put .ensures .1) (then (second .number .ensures .0) (third .put2 .ensures .1)), omega (arith, first .put .ensures .1 .end, second .number .ensures .1, third .put2 .ensures .1 .end))
+
+pub line-spec : {M : Type 1} → statement M
+line-spec =
+    tie.close
+    (tie.spec put-requires number-requires slice-aggregate-put put-requires-2 same-length returns)

@@ -1,0 +1,53 @@
+-- `step` meets its contract: nothing for a block that is not on the route; else a space, its number and its letter. Assumes nothing.
+use native.Mathlib.Omega.{arith}
+use borrow.Author.Tests.{eq-eqb, ne-eqb}
+use Rattle.lent.specs.Adding.{then, nothing}
+use borrow.Author.Needs.{needs}
+use Rattle.text.proofs.step.Statement.{statement}
+use Rattle.text.proofs.step.Tie as tie
+
+returns : tie.Need-returns
+returns c = (rw (eq-eqb _ 0 (c .if1 .taken)) (nothing _ _), omega arith)
+
+slice-aggregate-put : tie.Need-slice-aggregate-put
+slice-aggregate-put c = search needs
+
+put-requires : tie.Need-put-requires
+put-requires c κs = search needs
+
+number-requires : tie.Need-number-requires
+number-requires c κs = search needs
+
+letter-requires : tie.Need-letter-requires
+letter-requires c κs = search needs
+
+slice-aggregate-put-2 : tie.Need-slice-aggregate-put-2
+slice-aggregate-put-2 c = search needs
+
+put-requires-2 : tie.Need-put-requires-2
+put-requires-2 c κs = search needs
+
+same-length : tie.Need-same-length
+same-length c = search needs
+
+returns-2 : tie.Need-returns-2
+returns-2 c =
+    let third = c .before .before in
+    let second = third .before .before .before .before .before .before in
+    let first = second .before .before .before .before in
+    let last = rw (third .before .before .before .letter .ensures) at (third .put2 .ensures .1) in
+    (rw (ne-eqb _ 0 (first .before .before .before .if1 .left)) (then (first .put .ensures .1) (then (second .number .ensures .0) last)), omega (arith, first .put .ensures .1 .end, second .number .ensures .1, third .put2 .ensures .1 .end))
+
+pub step-spec : {M : Type 1} → statement M
+step-spec =
+    tie.close
+    (tie.spec
+    returns
+    slice-aggregate-put
+    put-requires
+    number-requires
+    letter-requires
+    slice-aggregate-put-2
+    put-requires-2
+    same-length
+    returns-2)
