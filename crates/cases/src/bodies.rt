@@ -1,5 +1,5 @@
-// Bodies put together block by block. A block is told how many effects follow it; the writer sees whether they add up. What finds no place is left out,
-// which the writer sees too.
+// Bodies put together block by block. A block is told how many effects follow it; the writer sees whether they add up.
+// What finds no place is left out, which the writer sees too.
 use form::Block;
 use form::Body;
 use form::Counter;

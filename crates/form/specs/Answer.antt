@@ -1,5 +1,5 @@
--- The answers of the reader and the writer. Trusted: for each answer that is an enum, document 01's number and values for each of its cases, and
--- what each call answers. A refusal's number is as tabled; 0 stands for none. Rests on Form.
+-- The answers of the reader and the writer. Trusted: for each answer that is an enum, document 01's number and values
+-- for each of its cases, and what each call answers. A refusal's number is as tabled; 0 stands for none. Rests on Form.
 use mathlib.Core.Bool.{Bool, true, false, not}
 use mathlib.Core.List.{List, _++_}
 use mathlib.Core.Path.{_≡_}
@@ -67,7 +67,8 @@ abbrev pub asJudged : Verdict → Written → Written
 asJudged Accepted rest = rest
 asJudged (Refused number place) rest = Unwritten number place
 
--- The writer: 14 for its counts, then what the reader says of the laid-out bytes, then 42 with the bytes needed; else how many bytes are written
+-- The writer: 14 for its counts, then what the reader says of the laid-out bytes, then 42 with the bytes needed; else
+-- how many bytes are written
 abbrev pub written : Body → ℕ → Written
 written body room =
     when (countsFit body)

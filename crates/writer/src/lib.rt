@@ -1,5 +1,5 @@
-// The writer of the order form: a body laid out, judged as the reader would, and copied into lent bytes. What bytes a body is laid out as, and what is answered, is in form's
-// Form and Answer.
+// The writer of the order form: a body laid out, judged as the reader would, and copied into lent bytes. What bytes a
+// body is laid out as, and what is answered, is in form's Form and Answer.
 ghost use mathlib.Core.Path.{_≡_};
 ghost use mathlib.Core.Bool.{true};
 ghost use mathlib.Core.List.{_++_};
@@ -25,7 +25,8 @@ fn bits_of(z: i32) -> u32
 // Bytes copied into `out` from `at` on; the place after them.
 fn copy_in(out: &mut [u8], at: usize, bytes: &[u8]) -> usize
     requires { ⌜ at + length (now bytes) ≤ length (now out) ⌝ }
-    ensures { λ r. ⌜ (r ≡ at + length (now (bytes .entry))) × (now (out .exit) ≡ paste (now (out .entry)) at (now (bytes .entry)) (length (now (bytes .entry)))) ⌝ }
+    ensures { λ r. ⌜ (r ≡ at + length (now (bytes .entry))) ×
+        (now (out .exit) ≡ paste (now (out .entry)) at (now (bytes .entry)) (length (now (bytes .entry)))) ⌝ }
 {
     let mut j = 0;
     while j < bytes.len() {
@@ -115,7 +116,8 @@ fn lay_effects(
     n: usize,
 ) -> usize
     requires { ⌜ (from + n ≤ 256) × (at + 10 * n ≤ length (now buf)) ⌝ }
-    ensures { λ r. ⌜ (r ≡ at + 10 * n) × (take r (now (buf .exit)) ≡ take at (now (buf .entry)) ++ layEffects (take n (drop from effects))) ⌝ }
+    ensures { λ r. ⌜ (r ≡ at + 10 * n) ×
+        (take r (now (buf .exit)) ≡ take at (now (buf .entry)) ++ layEffects (take n (drop from effects))) ⌝ }
 {
     let mut to = at;
     let mut j = 0;
@@ -162,7 +164,9 @@ fn lay_block(
     e: usize,
 ) -> usize
     requires { ⌜ (e + block .effects ≤ 256) × (at + (17 + 10 * block .effects) ≤ length (now buf)) ⌝ }
-    ensures { λ r. ⌜ (r ≡ at + (17 + 10 * block .effects)) × (take r (now (buf .exit)) ≡ take at (now (buf .entry)) ++ (blockBytes block ++ layEffects (take (block .effects) (drop e effects)))) ⌝ }
+    ensures { λ r. ⌜ (r ≡ at + (17 + 10 * block .effects)) ×
+        (take r (now (buf .exit)) ≡ take at (now (buf .entry)) ++
+        (blockBytes block ++ layEffects (take (block .effects) (drop e effects)))) ⌝ }
 {
     let bytes = block_bytes(block);
     let after = copy_in(buf, at, &bytes);

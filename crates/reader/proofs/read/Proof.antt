@@ -1,4 +1,4 @@
--- `form::read` meets its contract: the verdict is the judgement's, and the body goes with it.
+-- `reader::read` meets its contract: the verdict is the judgement's, and the body goes with it.
 use mathlib.Core.Bool.{Bool, true, false}
 use mathlib.Core.List.{List}
 use mathlib.Core.Path.{_≡_, ap, sym, _∙_}
@@ -12,7 +12,8 @@ use Rattle.reader.proofs.read.Tie as tie
 
 -- a verdict and the body that goes with it are the reading
 reading-is :
-    (s : List ℕ) (v : Verdict) (t : Bool) (body : Body) → v ≡ judge s → t ≡ accepted v → body ≡ when t (bodyOf s) zeroBody
+    (s : List ℕ) (v : Verdict) (t : Bool) (body : Body) → v ≡ judge s → t ≡ accepted v
+    → body ≡ when t (bodyOf s) zeroBody
     → record { verdict = v; body = body } ≡ reading s
 reading-is s v t body p q r =
     λ i. record { verdict = p i; body = (r ∙ ap (λ (b : Bool). when b (bodyOf s) zeroBody) (q ∙ ap accepted p)) i }
@@ -20,12 +21,14 @@ reading-is s v t body p q r =
 returns : tie.Need-returns
 returns c =
     let tested = c .before .before in
-    reading-is _ _ true _ (tested .before .judge .ensures .0) (sym (c .before .if1 .taken) ∙ tested .accepts .ensures) (c .body-of .ensures)
+    reading-is _ _ true _ (tested .before .judge .ensures .0) (sym (c .before .if1 .taken) ∙ tested .accepts .ensures)
+    (c .body-of .ensures)
 
 returns-2 : tie.Need-returns-2
 returns-2 c =
     let tested = c .before .before in
-    reading-is _ _ false _ (tested .before .judge .ensures .0) (sym (c .before .if1 .left) ∙ tested .accepts .ensures) (c .zero-body .ensures)
+    reading-is _ _ false _ (tested .before .judge .ensures .0) (sym (c .before .if1 .left) ∙ tested .accepts .ensures)
+    (c .zero-body .ensures)
 
 pub read-spec : {M : Type 1} → statement M
 read-spec =

@@ -5,13 +5,15 @@ use native.Mathlib.Omega.{arith}
 use borrow.Author.Tests.{not-true, not-false}
 use lib.ListN.{length, take}
 use Rattle.form.specs.Form.{judge, lay, countsFit}
-use Rattle.form.specs.Writing.{wrote-as, counts-refused, held-refused, form-refused, room-short, room-enough, pasted-front}
+use Rattle.form.specs.Writing.{wrote-as, counts-refused, held-refused, form-refused, room-short, room-enough}
+use Rattle.form.specs.Writing.{pasted-front}
 use borrow.Author.Needs.{needs}
 use Rattle.writer.proofs.write.Statement.{statement}
 use Rattle.writer.proofs.write.Tie as tie
 
 returns : tie.Need-returns
-returns c = wrote-as _ _ _ _ (counts-refused _ _ (sym (c .before .counts-fit .ensures) ∙ not-true _ (c .if1 .taken))) refl
+returns c = wrote-as _ _ _ _ (counts-refused _ _ (sym (c .before .counts-fit .ensures) ∙ not-true _ (c .if1 .taken)))
+    refl
 
 lay-requires : tie.Need-lay-requires
 lay-requires c κs = (sym (c .before .before .counts-fit .ensures) ∙ not-false _ (c .before .if1 .left), omega arith)
@@ -29,7 +31,8 @@ fit c =
     let tested = c .before .before in
     sym (tested .before .counts-fit .ensures) ∙ not-false _ (tested .if1 .left)
 
-on-form : (c : tie.After-judge) → c .judge .result ≡ judge (lay (c .before .before .before .before .before .before .before .before .args .body))
+on-form : (c : tie.After-judge)
+    → c .judge .result ≡ judge (lay (c .before .before .before .before .before .before .before .before .args .body))
 on-form c = c .judge .ensures .0 ∙ ap judge (c .before .before .before .lay .ensures .1 .1)
 
 returns-2 : tie.Need-returns-2
@@ -38,8 +41,10 @@ returns-2 c =
     let judged = tested .before in
     let start = judged .before .before .before .before .before .before .before .before in
     let refused = sym (tested .accepts .ensures) ∙ not-true _ (c .before .if2 .taken) in
-    wrote-as _ _ _ _ (c .as-judged .ensures ∙ form-refused _ _ (fit (judged .before .before .before)) _ (on-form judged) refused)
-    (rw (c .as-judged .ensures) (held-refused (judged .judge .result) (lay (start .args .body)) (start .args .out .now) refused))
+    wrote-as _ _ _ _ (c .as-judged .ensures ∙ form-refused _ _ (fit (judged .before .before .before)) _ (on-form judged)
+    refused)
+    (rw (c .as-judged .ensures) (held-refused (judged .judge .result) (lay (start .args .body)) (start .args .out .now)
+    refused))
 
 returns-3 : tie.Need-returns-3
 returns-3 c =
@@ -74,4 +79,6 @@ returns-4 c =
 pub write-spec : {M : Type 1} → statement M
 write-spec =
     tie.close
-    (tie.spec (λ _ _. tt) returns (λ c. search needs) lay-requires (λ c. search needs) slice-aggregate-judge (λ _ _. tt) (λ _ _. tt) (λ _ _. tt) returns-2 returns-3 (λ c. search needs) slice-aggregate-copy-in copy-in-requires (λ c. search needs) returns-4)
+    (tie.spec (λ _ _. tt) returns (λ c. search needs) lay-requires (λ c. search needs) slice-aggregate-judge (λ _ _. tt)
+    (λ _ _. tt) (λ _ _. tt) returns-2 returns-3 (λ c. search needs) slice-aggregate-copy-in copy-in-requires
+    (λ c. search needs) returns-4)
