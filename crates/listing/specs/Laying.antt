@@ -9,6 +9,10 @@ use lib.Seq.{sets}
 use Rattle.laws.specs.Terms.{bit, each, range}
 use Rattle.laws.specs.Laid.{Laid, sets-more, laid-next, laid-room}
 
+-- what a function that writes says: the place after the bytes, and that they stand from `at` on
+abbrev pub Wrote : (at : ℕ) (bytes before : List ℕ) (r : ℕ) (after : List ℕ) → Type 0
+Wrote at bytes before r after = (r ≡ at + length bytes) × (after ≡ sets before at bytes)
+
 -- an entry's bytes, where there is one
 abbrev pub entryBytes : Bool → (kind first third second outcome : ℕ) → List ℕ
 entryBytes on kind first third second outcome = cond on (kind ∷ first ∷ third ∷ second ∷ outcome ∷ []) []

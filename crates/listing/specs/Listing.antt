@@ -41,6 +41,9 @@ allBytes variable a1 j1 f1 a2 j2 f2 = each (range 0 64) (blockBytes variable a1 
 abbrev pub bitsOf : (a j f : List ℕ) → ℕ
 bitsOf a j f = sum 64 (λ s. ones (getD a s 0) + (ones (getD j s 0) + ones (getD f s 0)))
 
+abbrev pub firstsBits : Firsts → ℕ
+firstsBits p = bitsOf (p .assigned) (p .jump) (p .fall)
+
 -- ---- lists in lists
 
 each-each : {A B C : Type 0} (l : List A) (f : A → List B) (g : B → List C) → each (each l f) g ≡ each l (λ x. each (f x) g)
@@ -144,9 +147,14 @@ pub record Rows (variable a1 j1 f1 a2 j2 f2 : List ℕ) : Type 0 where
   pub first : (length a1 ≡ 64) × ((length j1 ≡ 64) × (length f1 ≡ 64))
   pub second : (length a2 ≡ 64) × ((length j2 ≡ 64) × (length f2 ≡ 64))
 
+abbrev pub FoundRows : Found → Type 0
+FoundRows f = Rows (f .variable) (f .jumped .assigned) (f .jumped .jump) (f .jumped .fall) (f .fallen .assigned) (f .fallen .jump) (f .fallen .fall)
+
+abbrev pub foundBytes : Found → List ℕ
+foundBytes f = allBytes (f .variable) (f .jumped .assigned) (f .jumped .jump) (f .jumped .fall) (f .fallen .assigned) (f .fallen .jump) (f .fallen .fall)
+
 -- what is found of a body has them
-pub found-rows : (body : Body) (f : Found) → FoundBy body f
-    → Rows (f .variable) (f .jumped .assigned) (f .jumped .jump) (f .jumped .fall) (f .fallen .assigned) (f .fallen .jump) (f .fallen .fall)
+pub found-rows : (body : Body) (f : Found) → FoundBy body f → FoundRows f
 found-rows body f b = record {
   variables = b .variables .size;
   first = (b .jumped .assigned .size, (b .jumped .jumps .size, b .jumped .falls .size));
