@@ -1,5 +1,5 @@
 -- Which refusals the list can give, after document 01: 10 to 19, and 42. Rests on Answer and roundtrip's Refusals.
-use mathlib.Core.Path.{_≡_, sym, _∙_}
+use mathlib.Core.Path.{_≡_, refl, sym, _∙_}
 use mathlib.Core.Logic.{_⊎_, inl, inr}
 use mathlib.Core.Bool.{Bool, true, false}
 use mathlib.Core.List.{List}
