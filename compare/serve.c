@@ -190,8 +190,8 @@ static int ask(void)
     const uint64_t *given = question.numbers;
     const uint8_t *form = at(&question.form);
     size_t len = question.form.length;
-    uint64_t *table = (void *)at(&question.table);
-    size_t words = question.table.length / sizeof *table;
+    struct somniaret_entry *table = (void *)at(&question.table);
+    size_t entries = question.table.length / sizeof *table;
     uint8_t *out = at(&question.out);
     size_t out_len = question.out.length;
 
@@ -236,7 +236,7 @@ static int ask(void)
     case SWEEP_TABLE:
         if (!somniaret_sweep_table)
             return 0;
-        answer.numbers.sweep = somniaret_sweep_table(form, len, table, words, out, out_len);
+        answer.numbers.sweep = somniaret_sweep_table(form, len, table, entries, out, out_len);
         return 1;
     case STACK:
         answer.numbers.all[0] = used_stack(__builtin_frame_address(0));

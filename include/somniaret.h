@@ -61,10 +61,22 @@ extern "C" {
 /* The bytes of an entry in a list of conflicts. */
 #define SOMNIARET_LIST_ENTRY_BYTES 5
 
-/* A row of the sweep's table, which is the part of one block: 64 entries of 5 words. */
+/* A row of the sweep's table, which is the part of one block, in entries. */
 #define SOMNIARET_ROW_ENTRIES 64
-#define SOMNIARET_ENTRY_WORDS 5
-#define SOMNIARET_ROW_WORDS (SOMNIARET_ROW_ENTRIES * SOMNIARET_ENTRY_WORDS)
+
+/* A way from a block to the end. In a set bit k stands for block k. */
+struct somniaret_way {
+    uint64_t weight; /* the sum of its costs */
+    uint64_t jumped; /* the blocks left by jump or go */
+    uint64_t fallen; /* the blocks left by fall */
+};
+
+/* An entry of the sweep's table: a pair of sets of open edges, and of the heaviest tails with just these the first. */
+struct somniaret_entry {
+    uint64_t jumps; /* the blocks whose jump edge is open */
+    uint64_t falls; /* the blocks whose fall edge is open */
+    struct somniaret_way way;
+};
 
 struct somniaret_form_answer {
     uint64_t number;
@@ -142,18 +154,16 @@ struct somniaret_walk_answer somniaret_walk(const uint8_t *form, size_t len, uin
    Refusals: 10 to 20, 42, 44 (from 25 blocks on, with 64 entries a block as the place), 40, 43. */
 struct somniaret_sweep_answer somniaret_sweep(const uint8_t *form, size_t len, uint8_t *route, size_t route_len);
 
-/* The sweep with a lent table of `words` numbers. Block b's row is SOMNIARET_ROW_WORDS numbers from number
-   SOMNIARET_ROW_WORDS * b on, an entry after the other: jump set and fall set of its open edges, the weight of the
-   heaviest tail with just these, and of the first such tail the blocks left by jump or go, and those left by fall. In a set
-   bit k stands for block k. Entries ascend by jump set, then fall set; what is left of the row is zero.
-   Number 0: the rows of all blocks are complete, the words past them are as they were, and the first bytes of `route` are
+/* The sweep with a lent table of `entries` entries. Block b's row is SOMNIARET_ROW_ENTRIES entries, from entry
+   SOMNIARET_ROW_ENTRIES * b on. They ascend by jump set, then fall set; what is left of the row is zero.
+   Number 0: the rows of all blocks are complete, the entries past them are as they were, and the first bytes of `route` are
    the route, as somniaret_walk writes it.
-   Refusals: 10 to 20, 42, 44 (under SOMNIARET_ROW_WORDS words a block), 40, 43. The table is unchanged, except: with 40 at
-   block b the rows of higher blocks are complete, and row b and those of lower blocks are as they were; with 43 all rows
+   Refusals: 10 to 20, 42, 44 (under SOMNIARET_ROW_ENTRIES entries a block), 40, 43. The table is unchanged, except: with 40
+   at block b the rows of higher blocks are complete, and row b and those of lower blocks are as they were; with 43 all rows
    are complete. The route is unchanged.
-   SOMNIARET_MOST_BLOCKS * SOMNIARET_ROW_WORDS words are never too few. */
-struct somniaret_sweep_answer somniaret_sweep_table(const uint8_t *form, size_t len, uint64_t *table, size_t words,
-                                                    uint8_t *route, size_t route_len);
+   SOMNIARET_MOST_BLOCKS * SOMNIARET_ROW_ENTRIES entries are never too few. */
+struct somniaret_sweep_answer somniaret_sweep_table(const uint8_t *form, size_t len, struct somniaret_entry *table,
+                                                    size_t entries, uint8_t *route, size_t route_len);
 
 #ifdef __cplusplus
 }

@@ -44,8 +44,8 @@ impl Memory {
         memory
     }
 
-    pub fn lend_table(&mut self, words: Option<usize>) {
-        self.table = words.map_or(NOWHERE, |words| self.add(8 * words));
+    pub fn lend_table(&mut self, entries: Option<usize>) {
+        self.table = entries.map_or(NOWHERE, |entries| self.add(ENTRY_BYTES * entries));
     }
 
     pub fn lend_out(&mut self, bytes: Option<usize>) {
@@ -81,7 +81,7 @@ impl Memory {
         self.part_mut(self.out)
     }
 
-    /// The whole entries of the table.
+    /// The entries of the table.
     pub fn entries(&self) -> Vec<RowEntry> {
         let word = |bytes: &[u8], at: usize| u64::from_le_bytes(bytes[8 * at..8 * (at + 1)].try_into().unwrap());
         self.part(self.table)

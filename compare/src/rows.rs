@@ -9,9 +9,6 @@ use crate::ways::{for_each_way, left_by, weight, Step, Way};
 /// A row of the table has room for so many entries.
 pub const ROW_ENTRIES: usize = 64;
 
-/// The same in words of a lent table: five an entry.
-pub const ROW_WORDS: usize = 5 * ROW_ENTRIES;
-
 /// An entry of the sweep's table: a set of open edges, and the first of the heaviest tails with exactly that set.
 #[derive(Clone, Copy, Debug, Default, PartialEq, Eq)]
 pub struct RowEntry {

@@ -79,9 +79,9 @@ impl Question {
         self
     }
 
-    /// With so many words lent as a table, or nothing, which is a null pointer.
-    pub fn table(mut self, words: Option<usize>) -> Question {
-        self.memory.lend_table(words);
+    /// With so many entries lent as a table, or nothing, which is a null pointer.
+    pub fn table(mut self, entries: Option<usize>) -> Question {
+        self.memory.lend_table(entries);
         self
     }
 

@@ -66,8 +66,8 @@ extern "C" {
         answer: *mut SweepNumbers,
         form: *const u8,
         form_length: usize,
-        table: *mut u64,
-        table_words: usize,
+        table: *mut Entry,
+        table_entries: usize,
         route: *mut u8,
         route_length: usize,
     );
@@ -91,17 +91,15 @@ extern "C" {
 type Sweep = fn(&[u8], &mut [Entry], &mut [u8]) -> Result<Swept, Refusal>;
 
 fn proved(form: &[u8], table: &mut [Entry], route: &mut [u8]) -> Result<Swept, Refusal> {
-    // An entry is five words, in this order.
-    let words = table.as_mut_ptr().cast::<u64>();
     let mut answer = SweepNumbers::default();
     unsafe {
-        let (words_lent, bytes_lent) = (5 * table.len(), route.len());
+        let (entries_lent, bytes_lent) = (table.len(), route.len());
         somniaret_sweep_table(
             &mut answer,
             form.as_ptr(),
             form.len(),
-            words,
-            words_lent,
+            table.as_mut_ptr(),
+            entries_lent,
             route.as_mut_ptr(),
             bytes_lent,
         );

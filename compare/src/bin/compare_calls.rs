@@ -16,7 +16,7 @@ use by_listing::form::MOST_BLOCKS;
 use by_listing::generate::mixed;
 use by_listing::random::Random;
 use by_listing::report::BUDGET;
-use by_listing::rows::ROW_WORDS;
+use by_listing::rows::ROW_ENTRIES;
 use by_listing::served::{Call, Question};
 
 const INPUTS: u64 = 50_000;
@@ -79,7 +79,7 @@ fn compare(comparison: &mut Comparison, form: Form) {
         Question::on(Call::Conflicts, &form).out(lent(random, listed)),
         Question::on(Call::Walk, &form).budget(budget).out(lent(random, blocks)),
         Question::on(Call::Sweep, &form).out(lent(random, blocks)),
-        Question::on(Call::SweepTable, &form).table(lent(random, ROW_WORDS * blocks)).out(lent(random, blocks)),
+        Question::on(Call::SweepTable, &form).table(lent(random, ROW_ENTRIES * blocks)).out(lent(random, blocks)),
     ];
     comparison.compare(what.clone(), &listing, questions);
 

@@ -3,7 +3,7 @@
 //!     compare_sweep [SEED [INPUTS]] -- PROGRAM WORD..
 //!
 //! Every body is swept over a lent table that is exact and one that is longer, both with a pattern in them beforehand, and
-//! over the library's own; and over tables that are not there or too small, by one word or more, with a route that is not
+//! over the library's own; and over tables that are not there or too small, by one entry or more, with a route that is not
 //! there, too short, exact and longer.
 
 use std::collections::BTreeMap;
@@ -14,7 +14,7 @@ use by_listing::driver::{Comparison, Form};
 use by_listing::form::MOST_BLOCKS;
 use by_listing::generate::mostly_small;
 use by_listing::random::Random;
-use by_listing::rows::ROW_WORDS;
+use by_listing::rows::ROW_ENTRIES;
 use by_listing::served::{Call, Question};
 
 const INPUTS: u64 = 26_000;
@@ -47,25 +47,25 @@ fn compare(comparison: &mut Comparison, larger: &mut Larger, form: Form) {
     let mut random = Random::new(seed);
     let listing = Listing::of(&form);
     let blocks = listing.body().map_or(0, |body| body.block_count);
-    let words = ROW_WORDS * blocks;
+    let entries = ROW_ENTRIES * blocks;
     let shorter = random.below(blocks.max(1));
     let longer = blocks + 1 + random.below(MOST_BLOCKS);
-    let less = random.below(words.max(1));
-    let more = words + 1 + random.below(2 * ROW_WORDS);
+    let less = random.below(entries.max(1));
+    let more = entries + 1 + random.below(2 * ROW_ENTRIES);
 
     let lent = |table, route| Question::on(Call::SweepTable, &form).table(table).out(route);
     let own = |route| Question::on(Call::Sweep, &form).out(route);
     let mut questions = vec![
-        lent(Some(words), Some(longer)),
+        lent(Some(entries), Some(longer)),
         lent(Some(more), Some(blocks)),
         own(Some(random.pick(&[blocks, longer]))),
     ];
     questions.push(match random.below(8) {
-        0 => lent(words.checked_sub(1), Some(blocks)),
+        0 => lent(entries.checked_sub(1), Some(blocks)),
         1 => lent(Some(less), Some(longer)),
         2 => lent(None, Some(blocks)),
         3 => lent(None, None),
-        4 => lent(Some(words), blocks.checked_sub(1)),
+        4 => lent(Some(entries), blocks.checked_sub(1)),
         5 => lent(Some(less), Some(shorter)),
         6 => own(Some(shorter)),
         _ => own(None),

@@ -12,7 +12,7 @@ use by_listing::calls::MOST_WAYS;
 use by_listing::driver::{agree, Comparison, Form};
 use by_listing::form::{read, MOST_BLOCKS};
 use by_listing::generate::mostly_wide;
-use by_listing::rows::ROW_WORDS;
+use by_listing::rows::ROW_ENTRIES;
 use by_listing::served::{Call, Question};
 use by_listing::ways::ways_to_list;
 
@@ -29,7 +29,7 @@ fn main() -> ExitCode {
         let too_many_ways = body.is_ok_and(|body| ways_to_list(&body) > MOST_WAYS);
         let questions = vec![
             Question::on(Call::Walk, &form).budget(BUDGET).out(Some(MOST_BLOCKS)),
-            Question::on(Call::SweepTable, &form).table(Some(ROW_WORDS * blocks)).out(Some(MOST_BLOCKS)),
+            Question::on(Call::SweepTable, &form).table(Some(ROW_ENTRIES * blocks)).out(Some(MOST_BLOCKS)),
             Question::on(Call::Sweep, &form).out(Some(MOST_BLOCKS)),
         ];
         comparison.ask(what, questions, move |_, answers, met| {

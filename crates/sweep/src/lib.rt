@@ -75,7 +75,7 @@ struct Drive {
     b: usize,
     kept: usize,
     found: usize,
-    lengths: [u64; 64],
+    lengths: [u8; 64],
 }
 
 // What the next block's row is made of: the block, and by each way the first entry of the target's row and how many it has.
@@ -96,7 +96,7 @@ struct Built {
 }
 
 // How many entries row t has; a row that there is none of has none.
-fn length_of(lengths: &[u64], t: usize) -> usize
+fn length_of(lengths: &[u8], t: usize) -> usize
     requires { ⌜ length (now lengths) ≡ 64 ⌝ }
     ensures { λ r. ⌜ r ≡ getD (now (lengths .entry)) t 0 ⌝ }
 {
@@ -172,7 +172,7 @@ fn sweep_block(plan: &[u64], count: usize, at: Drive, table: &mut [Entry]) -> us
 }
 
 // No row is complete.
-fn no_lengths() -> [u64; 64]
+fn no_lengths() -> [u8; 64]
     ensures { λ r. ⌜ r ≡ noLengths ⌝ }
 {
     [0; 64]
@@ -215,7 +215,7 @@ fn following_of(at: Drive, found: usize) -> Drive
         };
     }
     let b = at.b - 1;
-    lengths[b] = found as u64;
+    lengths[b] = found as u8;
     Drive {
         going: b > 0,
         b,

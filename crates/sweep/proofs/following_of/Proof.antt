@@ -10,8 +10,8 @@ returns c = let a = c .before .before .args in following-over (a .at) (a .found)
 sub-b : tie.Need-sub-b
 sub-b c = search needs
 
-mul-lengths : tie.Need-mul-lengths
-mul-lengths c = search needs
+cast-lengths : tie.Need-cast-lengths
+cast-lengths c = search needs
 
 array-write-lengths : tie.Need-array-write-lengths
 array-write-lengths c = search needs
@@ -26,4 +26,4 @@ returns-2 c =
 
 pub following-of-spec : {M : Type 1} → statement M
 following-of-spec =
-    tie.close (tie.spec returns sub-b mul-lengths array-write-lengths greater-requires returns-2)
+    tie.close (tie.spec returns sub-b cast-lengths array-write-lengths greater-requires returns-2)
