@@ -30,12 +30,13 @@ bannedAt at = (at .jumps, at .falls)
 abbrev pub carriedAt : Way → Words
 carriedAt way = (way .weight, (way .jumped, way .fallen))
 
--- ---- what is found so far: the number of beginnings, and the route kept, in four words: 1 where there is one, and the
--- way
+-- ---- what is found so far
 
+-- the route kept, in four words: 1 where there is one, and the way
 abbrev pub routeIn : List ℕ → Option Words
 routeIn best = cond (eqb (getD best 0 0) 1) (some (getD best 1 0, (getD best 2 0, getD best 3 0))) none
 
+-- the number of beginnings, and the route kept
 abbrev pub Found : Type 0
 Found = ℕ × List ℕ
 
