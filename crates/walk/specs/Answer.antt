@@ -13,9 +13,9 @@ use Rattle.plan.specs.Owed.{Owed}
 use Rattle.walk.specs.declared.WalkAnswer.{WalkAnswer}
 use Rattle.walk.specs.declared.WalkAnswer.the-variants.{Walked, Refused}
 
--- ---- an answer in document 01's numbers: number 0 is no refusal; of a refusal every other number but the place is
--- zero
+-- ---- an answer in document 01's numbers
 
+-- Number 0 is no refusal; of a refusal every other number but the place is zero.
 pub record Values : Type 0 where
   pub number : ℕ
   pub place : ℕ

@@ -27,7 +27,7 @@ use Rattle.plan.specs.Prepared.PreparedOf.{refused as not-ready, ready}
 use Rattle.walk.specs.declared.WalkAnswer.{WalkAnswer}
 use Rattle.walk.specs.declared.WalkAnswer.the-variants.{Refused}
 use Rattle.walk.specs.Answer.{said, Outcome, refused, walkOutcome, WalkOwed}
-use Rattle.walk.specs.Terms.{walkedIn, soFar, tallied, Searched}
+use Rattle.walk.specs.Terms.{soFar, tallied, foundIn, Searched}
 
 -- ---- what is found
 
@@ -39,10 +39,11 @@ same-end false true a b e = let z : _≡_ {A = ℕ} 0 1 = cc in absurd (omega ar
 same-end false false a b e = (refl, λ f. cc)
 
 module _ (body : Body) (side : Side) (budget : ℕ) (found : List ℕ)
-    (h : tallied budget found ≡ within budget (walked body) (wordsFound body (routeOn body side))) where
-  ends : (ltb budget (walkedIn found) ≡ ltb budget (walked body))
-      × (ltb budget (walkedIn found) ≡ false → soFar found ≡ (walked body, wordsFound body (routeOn body side)))
-  ends = same-end (ltb budget (walkedIn found)) (ltb budget (walked body)) _ _ h
+    (h : tallied budget (foundIn found) ≡ within budget (walked body) (wordsFound body (routeOn body side))) where
+  ends : (ltb budget (getD found 0 0) ≡ ltb budget (walked body))
+      × (ltb budget (getD found 0 0) ≡ false
+      → soFar (foundIn found) ≡ (walked body, wordsFound body (routeOn body side)))
+  ends = same-end (ltb budget (getD found 0 0)) (ltb budget (walked body)) _ _ h
 
   no-route : (o : Option (ℕ × Path)) → none ≡ wordsFound body o → o ≡ none
   no-route none e = refl
@@ -53,10 +54,10 @@ module _ (body : Body) (side : Side) (budget : ℕ) (found : List ℕ)
   one-route none u e = let z : _≡_ {A = ℕ} 0 1 = cc in absurd (omega arith)
   one-route (some v) u e = (v, refl, cc)
 
-  none-found : ltb budget (walkedIn found) ≡ false → eqb (getD found 1 0) 1 ≡ false → routeOn body side ≡ none
+  none-found : ltb budget (getD found 0 0) ≡ false → eqb (getD found 1 0) 1 ≡ false → routeOn body side ≡ none
   none-found f a = no-route (routeOn body side) (rw a at (ap (λ (x : ℕ × Option Words). x .1) (ends .1 f)))
 
-  one-found : ltb budget (walkedIn found) ≡ false → eqb (getD found 1 0) 1 ≡ true
+  one-found : ltb budget (getD found 0 0) ≡ false → eqb (getD found 1 0) 1 ≡ true
       → (v : ℕ × Path) × (routeOn body side ≡ some v)
       × ((getD found 2 0, (getD found 3 0, getD found 4 0)) ≡ wordsOf body v)
   one-found f a = one-route (routeOn body side) (getD found 2 0, (getD found 3 0, getD found 4 0))
@@ -68,16 +69,16 @@ module _ (body : Body) (side : Side) (budget : ℕ) (found : List ℕ)
     enough : ltb (length lent) (body .count) ≡ false
     enough = le-ltb (length lent) (body .count) (omega arith)
 
-    pub over-budget : budget < walkedIn found → refused lent 41 budget ≡ walkOutcome body side budget lent count
-    over-budget l = rw (enough, sym (ends .0) ∙ lt-ltb budget (walkedIn found) l)
+    pub over-budget : budget < getD found 0 0 → refused lent 41 budget ≡ walkOutcome body side budget lent count
+    over-budget l = rw (enough, sym (ends .0) ∙ lt-ltb budget (getD found 0 0) l)
 
-    pub without-route : walkedIn found ≤ budget → (getD found 1 0 ≡ 1 → ⊥)
+    pub without-route : getD found 0 0 ≤ budget → (getD found 1 0 ≡ 1 → ⊥)
         → refused lent 43 0 ≡ walkOutcome body side budget lent count
     without-route l a =
-        let f = le-ltb budget (walkedIn found) l in
+        let f = le-ltb budget (getD found 0 0) l in
         rw (enough, sym (ends .0) ∙ f, none-found f (ne-eqb (getD found 1 0) 1 a))
 
-    pub with-route : Sound body → walkedIn found ≤ budget → getD found 1 0 ≡ 1 → (held : List ℕ)
+    pub with-route : Sound body → getD found 0 0 ≤ budget → getD found 1 0 ≡ 1 → (held : List ℕ)
         → held ≡ bytesOf n (getD found 3 0) (getD found 4 0) ++ drop n lent
         → _≡_ {A = Outcome} (
           record {
@@ -86,14 +87,14 @@ module _ (body : Body) (side : Side) (budget : ℕ) (found : List ℕ)
             iterations = count;
             weight = getD found 2 0;
             bound = boundOf count (getD found 2 0);
-            walked = walkedIn found;
+            walked = getD found 0 0;
           },
           held,
         )
         (walkOutcome body side budget lent count)
     unfolding bytesOf
     with-route g l a held h =
-        let f = le-ltb budget (walkedIn found) l in
+        let f = le-ltb budget (getD found 0 0) l in
         let (v, e, w) = one-found f (eq-eqb (getD found 1 0) 1 a) in
         let bytes : held ≡ routeBytes body (v .1) ++ drop (body .count) lent =
         h
@@ -120,11 +121,11 @@ short body side n size budget lent count l = ap (refused lent 42) (sym size)
 
 -- no route weighs more than all blocks may
 pub weight-few : (prefers : ℕ → ℕ → Bool) (plan : List ℕ) (count budget : ℕ) (found : List ℕ) → PlanOf plan count
-    → Searched prefers plan count budget found → walkedIn found ≤ budget
+    → Searched prefers plan count budget (foundIn found) → getD found 0 0 ≤ budget
     → getD found 1 0 ≡ 1 → getD found 2 0 ≤ costLimit
 weight-few prefers plan count budget found p s l a =
     let (v, e, w) = one-found (p .body) (record { prefers = prefers; cost = p .cost }) budget found
-    (s (p .body) (p .cost) (p .planned) (p .sound) (p .size)) (le-ltb budget (walkedIn found) l)
+    (s (p .body) (p .cost) (p .planned) (p .sound) (p .size)) (le-ltb budget (getD found 0 0) l)
     (eq-eqb (getD found 1 0) 1 a) in
     let (leads, is) = best-leads (p .body) (p .cost) prefers v e in
     let most = weight-most (p .body) (p .sound .onward) (p .cost) (p .range .most) (p .range .each) 0 (v .1)

@@ -30,7 +30,7 @@ use Rattle.theory.specs.WalkWords.{advance, finish, nothing}
 use Rattle.theory.specs.Main.{walk-answer}
 use Rattle.theory.specs.Range.{upTo, up-next, up-on}
 use Rattle.theory.specs.Plan.{targetAt, costAt, IsWay, Planned, PlanOf}
-use Rattle.walk.specs.Terms.{walkedIn, routeIn, soFar, tallied, Standing, Barred, Entered, Barring, walkFrom}
+use Rattle.walk.specs.Terms.{Found, routeIn, soFar, tallied, Standing, Barred, Entered, Barring, walkFrom}
 use Rattle.walk.specs.Terms.{Walks, isOpen, Took, Searched}
 use Rattle.walk.specs.Terms.Took.{stays, goes}
 
@@ -156,29 +156,27 @@ module _ (prefers : ℕ → ℕ → Bool) where
   counts false true walked kept v = refl
   counts false false walked kept v = refl
 
-  pub visit-is : (cost : ℕ → ℕ → ℕ) (count budget b : ℕ) (c : Words) (found r : List ℕ) (last : Bool)
-      → eqb (suc b) count ≡ last → walkedIn r ≡ walkedIn found + 1
-      → routeIn r ≡ cond last (keepFirst prefers (routeIn found) (finish cost (b, c))) (routeIn found)
+  pub visit-is : (cost : ℕ → ℕ → ℕ) (count budget b : ℕ) (c : Words) (found r : Found) (last : Bool)
+      → eqb (suc b) count ≡ last → r .0 ≡ found .0 + 1
+      → routeIn (r .1) ≡ cond last (keepFirst prefers (routeIn (found .1)) (finish cost (b, c))) (routeIn (found .1))
       → tallied budget r ≡ tally prefers (finish cost) count budget (soFar found) (b, c)
   visit-is cost count budget b c found r last l w k =
-      (λ i. cond (ltb budget ((w ∙ add-one (walkedIn found)) i)) none (some ((w ∙ add-one (walkedIn found)) i, k i)))
-      ∙ counts (ltb budget (suc (walkedIn found))) last (walkedIn found) (routeIn found) (finish cost (b, c))
-      ∙ ap (λ d. tallyBy prefers (ltb budget (suc (walkedIn found))) d (soFar found) (finish cost (b, c))) (sym l)
+      (λ i. cond (ltb budget ((w ∙ add-one (found .0)) i)) none (some ((w ∙ add-one (found .0)) i, k i)))
+      ∙ counts (ltb budget (suc (found .0))) last (found .0) (routeIn (found .1)) (finish cost (b, c))
+      ∙ ap (λ d. tallyBy prefers (ltb budget (suc (found .0))) d (soFar found) (finish cost (b, c))) (sym l)
 
--- ---- the words of what is found
+-- ---- the words of the route kept
 
-module _ (found : List ℕ) where
-  -- kept where it is no lighter
-  pub kept-old : (v : Words) → getD found 1 0 ≡ 1 → v .0 ≤ getD found 2 0
-      → routeIn found ≡ keepFirst heavier (routeIn found) v
-  kept-old v e h = rw (eq-eqb (getD found 1 0) 1 e, le-ltb (getD found 2 0) (v .0) h)
+module _ (best : List ℕ) (v : Words) where
+  -- kept where the new one is no heavier
+  pub kept-old : getD best 0 0 ≡ 1 → v .0 ≤ getD best 1 0 → routeIn best ≡ keepFirst heavier (routeIn best) v
+  kept-old e h = rw (eq-eqb (getD best 0 0) 1 e, le-ltb (getD best 1 0) (v .0) h)
 
-  pub kept-new : (v : Words) → (getD found 1 0 ≡ 1 → getD found 2 0 < v .0)
-      → some v ≡ keepFirst heavier (routeIn found) v
-  kept-new v h = by (eqb (getD found 1 0) 1) refl
+  pub kept-new : (getD best 0 0 ≡ 1 → getD best 1 0 < v .0) → some v ≡ keepFirst heavier (routeIn best) v
+  kept-new h = by (eqb (getD best 0 0) 1) refl
     where
-      by : (any : Bool) → eqb (getD found 1 0) 1 ≡ any → some v ≡ keepFirst heavier (routeIn found) v
-      by true e = rw (e, lt-ltb (getD found 2 0) (v .0) (h (eqb-true (getD found 1 0) 1 e)))
+      by : (any : Bool) → eqb (getD best 0 0) 1 ≡ any → some v ≡ keepFirst heavier (routeIn best) v
+      by true e = rw (e, lt-ltb (getD best 1 0) (v .0) (h (eqb-true (getD best 0 0) 1 e)))
       by false e = rw e
 
 -- ---- the turn
@@ -228,7 +226,7 @@ module _ (prefers : ℕ → ℕ → Bool) (body : Body) (cost : ℕ → ℕ → 
       ∙ two-ways (ltb (targetAt plan b 1) 64) (ltb (targetAt plan b 2) 64) (targetAt plan b 1) (targetAt plan b 2) d) i)
 
   -- the tests: the budget is passed, the way exists, its edge is banned
-  way-is : (way target : ℕ) (first next : List ℕ) (over is shut : Bool) → ltb budget (walkedIn first) ≡ over
+  way-is : (way target : ℕ) (first next : Found) (over is shut : Bool) → ltb budget (first .0) ≡ over
       → ltb target 64 ≡ is → entered body b s (b, way) ≡ shut
       → (((is && not shut) && not over) ≡ false → next ≡ first)
       → (((is && not shut) && not over) ≡ true
@@ -249,7 +247,7 @@ module _ (prefers : ℕ → ℕ → Bool) {body : Body} {cost : ℕ → ℕ → 
   abbrev by : ℕ → ℕ × Option Words → Option (ℕ × Option Words)
   by way = byWay prefers body cost budget b s c way (targetAt plan b way)
 
-  one-way : (way : ℕ) (w : IsWay way) (found r : List ℕ) → Took prefers plan (body .count) budget b way here c found r
+  one-way : (way : ℕ) (w : IsWay way) (found r : Found) → Took prefers plan (body .count) budget b way here c found r
       → tallied budget r ≡ andThen (tallied budget found) (by way)
   one-way way w found r (stays o same) =
       way-is prefers body cost budget b s c way (targetAt plan b way) found r _ _ _ refl refl
@@ -261,7 +259,7 @@ module _ (prefers : ℕ → ℕ → Bool) {body : Body} {cost : ℕ → ℕ → 
       ∙ λ i. walkFrom prefers body cost budget (targetAt plan b way) (next-banned p b h s here bars e g way w next l i)
       (next-carried p b h s here bars e g way w next l c on carried i) (soFar found))
 
-  all-ways : (found first second r : List ℕ)
+  all-ways : (found first second r : Found)
       → tallied budget first ≡ tally prefers (finish (costAt plan)) (body .count) budget (soFar found) (b, c)
       → Took prefers plan (body .count) budget b 1 here c first second
       → Took prefers plan (body .count) budget b 2 here c second r
@@ -275,11 +273,11 @@ module _ (prefers : ℕ → ℕ → Bool) {body : Body} {cost : ℕ → ℕ → 
     where
       same : tally prefers (finish (costAt plan)) (body .count) budget (soFar found) (b, c)
           ≡ tally prefers (finish cost) (body .count) budget (soFar found) (b, c)
-      same = λ i. tallyBy prefers (ltb budget (suc (walkedIn found))) (eqb (suc b) (body .count)) (soFar found)
+      same = λ i. tallyBy prefers (ltb budget (suc (found .0))) (eqb (suc b) (body .count)) (soFar found)
           (c .0 + p .costs b 0 h i, c .1)
 
 module _ (prefers : ℕ → ℕ → Bool) {plan : List ℕ} {count budget b : ℕ} where
-  pub walks : b < count → (s here : Key) (c : Words) → Entered plan b s here → (found first second r : List ℕ)
+  pub walks : b < count → (s here : Key) (c : Words) → Entered plan b s here → (found first second r : Found)
       → tallied budget first ≡ tally prefers (finish (costAt plan)) count budget (soFar found) (b, c)
       → Took prefers plan count budget b 1 here c first second → Took prefers plan count budget b 2 here c second r
       → Walks prefers plan count budget b s c found r
@@ -295,8 +293,8 @@ pub open-is : (plan : List ℕ) (b way : ℕ) (here : Key) (walked budget : ℕ)
 open-is plan b way here walked budget is edge test = (λ i. isOpen (sym is i) (edge i) walked budget) ∙ sym test
 
 pub took-goes : {prefers : ℕ → ℕ → Bool} {plan : List ℕ} {count budget b way : ℕ} {here next : Key} {c on : Words}
-    {found s r : List ℕ} {target : ℕ}
-    → isOpen (targetAt plan b way) (has here (b, way)) (walkedIn found) budget ≡ true → target ≡ targetAt plan b way
+    {found s r : Found} {target : ℕ}
+    → isOpen (targetAt plan b way) (has here (b, way)) (found .0) budget ≡ true → target ≡ targetAt plan b way
     → Barring plan b way here next → on ≡ advance (costAt plan) (b, way) c
     → Walks prefers plan count budget target next on found s → r ≡ s
     → Took prefers plan count budget b way here c found r
@@ -316,8 +314,7 @@ fall-edge s k = refl
 
 -- ---- what a block of the walk may count on
 
-module _ {plan : List ℕ} {count budget b weight : ℕ} {before : List ℕ}
-    (s : Standing plan count budget b weight before) where
+module _ {plan : List ℕ} {count budget b weight before : ℕ} (s : Standing plan count budget b weight before) where
   own : b < s .of .body .count
   own = omega (arith, s .inside, s .of .size)
 
@@ -345,38 +342,29 @@ module _ {plan : List ℕ} {count budget b weight : ℕ} {before : List ℕ}
       (above, omega (arith, inside, s .of .size), ltb-false budget walked (not-out (ltb budget walked) q))
 
   -- a call at the target
-  pub onward : (way : ℕ) → IsWay way → (target : ℕ) → target ≡ targetAt plan b way → (here : Key) (found : List ℕ)
-      → isOpen (targetAt plan b way) (has here (b, way)) (walkedIn found) budget ≡ true
+  pub onward : (way : ℕ) → IsWay way → (target : ℕ) → target ≡ targetAt plan b way → (here : Key) (walked : ℕ)
+      → isOpen (targetAt plan b way) (has here (b, way)) walked budget ≡ true
       → (on : ℕ) → on ≡ weight + costAt plan b way
-      → (count - target < count - b) × Standing plan count budget target on found
-  onward way w target is here found o on more =
-      let (above, inside, left) = open-leads way w (has here (b, way)) (walkedIn found) o in
+      → (count - target < count - b) × Standing plan count budget target on walked
+  onward way w target is here walked o on more =
+      let (above, inside, left) = open-leads way w (has here (b, way)) walked o in
       let few = costs-few way .1 in
       let below = up-on (s .of .range .most) (suc b) target (omega arith) in (
         omega (arith, s .inside),
-        record {
-          of = s .of;
-          inside = omega arith;
-          small = omega arith;
-          counted = left;
-          fits = s .fits;
-        },
+        record { of = s .of; inside = omega arith; small = omega arith; counted = left; fits = s .fits },
       )
 
   -- the last block has no way on
-  pub took-none : {prefers : ℕ → ℕ → Bool} (way : ℕ) → IsWay way → (here : Key) (c : Words) (found : List ℕ)
+  pub took-none : {prefers : ℕ → ℕ → Bool} (way : ℕ) → IsWay way → (here : Key) (c : Words) (found : Found)
       → b + 1 ≡ count → Took prefers plan count budget b way here c found found
   took-none way w here c found last =
-      stays (is-false (isOpen (targetAt plan b way) (has here (b, way)) (walkedIn found) budget)
-      (λ o. let (above, inside, left) = open-leads way w (has here (b, way)) (walkedIn found) o in omega arith)) refl
+      stays (is-false (isOpen (targetAt plan b way) (has here (b, way)) (found .0) budget)
+      (λ o. let (above, inside, left) = open-leads way w (has here (b, way)) (found .0) o in omega arith)) refl
 
 -- ---- from block 0 on
 
-abbrev pub none-found : List ℕ
-none-found = 0 ∷ 0 ∷ 0 ∷ 0 ∷ 0 ∷ []
-
 pub standing-first : (plan : List ℕ) (count budget : ℕ) → PlanOf plan count → budget < 4294967296
-    → Standing plan count budget 0 0 none-found
+    → Standing plan count budget 0 0 0
 standing-first plan count budget of fits = record {
   of = of;
   inside = omega (arith, of .sound .some, of .size);
@@ -385,11 +373,10 @@ standing-first plan count budget of fits = record {
   fits = fits;
 }
 
-pub searched : (prefers : ℕ → ℕ → Bool) → Choice prefers → (plan : List ℕ) (count budget : ℕ) (r : List ℕ)
-    → Walks prefers plan count budget 0 noEdges nothing none-found r
-    → Searched prefers plan count budget r
-searched prefers ch plan count budget r w body cost p g size = w body cost p g size free
-    ∙ walk-answer body g cost prefers ch budget
+pub searched : (prefers : ℕ → ℕ → Bool) → Choice prefers → (plan : List ℕ) (count budget : ℕ) (r : Found)
+    → Walks prefers plan count budget 0 noEdges nothing (0, 0 ∷ 0 ∷ 0 ∷ 0 ∷ []) r → Searched prefers plan count budget r
+searched prefers ch plan count budget r w body cost p g size =
+    w body cost p g size free ∙ walk-answer body g cost prefers ch budget
   where
     free : Barred body noEdges
     free = record { tests = λ k side v l t. clash t (has-none (k, side)); within = λ k side v l. has-none (k, side) }

@@ -1,17 +1,18 @@
 // The full walk: by recursion from block to block, jump before fall; an edge that makes a conflict is not taken. It
 // works on the plan of a body alone (theory's Plan). What its words and turns mean is in specs/Terms.antt. What goes
-// down the recursion is plain words, and what is found stands in lent words: so a step is a few registers, and nothing
-// is copied back.
+// down the recursion is plain words, and the route kept stands in lent words: so a step is a few registers, and no
+// struct is copied down or back.
 ghost use mathlib.Core.Path.{_≡_};
 ghost use Prim.Native.Nat.{ℕ, _+_, _^_, _<_};
 ghost use Rattle.laws.specs.Terms.{bit, heavier};
 ghost use Rattle.form.specs.declared.Body.{Body};
 ghost use Rattle.form.specs.Conflict.{Sound};
-ghost use Rattle.theory.specs.Walk.{keepFirst, tally};
-ghost use Rattle.theory.specs.WalkWords.{advance, finish};
+ghost use Rattle.theory.specs.Walk.{keepFirst};
+ghost use Rattle.theory.specs.WalkWords.{advance};
 ghost use Rattle.theory.specs.Plan.{costAt, Planned, PlanOf};
-ghost use Rattle.walk.specs.Terms.{bannedAt, carriedAt, walkedIn, routeIn, soFar, tallied, Standing, Entered};
-ghost use Rattle.walk.specs.Terms.{Barring, Walks, isOpen, Searched};
+ghost use Rattle.walk.specs.Terms.{bannedAt, carriedAt, routeIn, foundIn, Standing, Entered, Barring, Walks};
+ghost use Rattle.walk.specs.Terms.{isOpen};
+ghost use Rattle.walk.specs.Terms.{Searched};
 ghost use Rattle.walk.specs.Answer.{said, walkOutcome, WalkOwed};
 ghost use Rattle.walk.specs.declared.WalkAnswer.the-variants.{Refused};
 use plan_words::Way;
@@ -64,39 +65,27 @@ fn step(plan: &[u64; 1024], b: usize, way: usize, at: Way) -> Way
 }
 
 // A whole route is kept where it is the first, or heavier than the one kept.
-fn keep(way: Way, found: &mut [u64; 5])
-    ensures { λ _. ⌜ (walkedIn (now (found .exit)) ≡ walkedIn (now (found .entry))) ×
-        (routeIn (now (found .exit)) ≡ keepFirst heavier (routeIn (now (found .entry))) (carriedAt way)) ⌝ }
+fn keep(way: Way, best: &mut [u64; 4])
+    ensures { λ _. ⌜ routeIn (now (best .exit)) ≡ keepFirst heavier (routeIn (now (best .entry))) (carriedAt way) ⌝ }
 {
-    if found[1] == 1 {
-        if way.weight <= found[2] {
+    if best[0] == 1 {
+        if way.weight <= best[1] {
             return;
         }
     }
-    *found = [found[0], 1, way.weight, way.jumped, way.fallen];
-}
-
-// One more beginning, that ends in block b; in the last block it is a route.
-fn visit(plan: &[u64; 1024], count: usize, b: usize, way: Way, found: &mut [u64; 5])
-    requires { ⌜ (b < 64) × ((way .weight + costAt (now plan) b 0 < 2 ^ 64) × (walkedIn (now found) + 1 < 2 ^ 64)) ⌝ }
-    ensures { λ _. ⌜ ((budget : ℕ) → tallied budget (now (found .exit)) ≡
-        tally heavier (finish (costAt (now (plan .entry)))) count budget (soFar (now (found .entry)))
-        (b, carriedAt way)) ⌝ }
-{
-    *found = [found[0] + 1, found[1], found[2], found[3], found[4]];
-    if b + 1 == count {
-        keep(step(plan, b, 0, way), found);
-    }
+    *best = [1, way.weight, way.jumped, way.fallen];
 }
 
 // Whether block b may be left by a way: there is one, its edge is not banned, and the budget is not passed.
 fn open(target: u64, banned: u64, b: usize, walked: u64, budget: u64) -> bool
+    requires { ⌜ b < 64 ⌝ }
     ensures { λ r. ⌜ r ≡ isOpen target (bit banned b) walked budget ⌝ }
 {
-    ((target < 64) & !words::has(banned, b)) & !(budget < walked)
+    ((target < 64) & !((banned >> b) % 2 == 1)) & !(budget < walked)
 }
 
-// All that is found from block b on, where these edges are banned and the way so far is this.
+// All that is found from block b on, where these edges are banned, the way so far is this and so many beginnings are
+// walked: how many then; the first heaviest route, if there is any, is kept in the lent words.
 fn walk_from(
     plan: &[u64; 1024],
     count: usize,
@@ -107,11 +96,12 @@ fn walk_from(
     weight: u64,
     jumped: u64,
     fallen: u64,
-    found: &mut [u64; 5],
-)
-    requires { ⌜ Standing (now plan) count budget b weight (now found) ⌝ }
-    ensures { λ _. ⌜ Walks heavier (now (plan .entry)) count budget b (jumps, falls) (weight, (jumped, fallen))
-        (now (found .entry)) (now (found .exit)) ⌝ }
+    walked: u64,
+    best: &mut [u64; 4],
+) -> u64
+    requires { ⌜ Standing (now plan) count budget b weight walked ⌝ }
+    ensures { λ r. ⌜ Walks heavier (now (plan .entry)) count budget b (jumps, falls) (weight, (jumped, fallen))
+        (walked, now (best .entry)) (r, now (best .exit)) ⌝ }
 {
     let here = enter(plan, b, Banned { jumps, falls });
     let way = Way {
@@ -119,15 +109,16 @@ fn walk_from(
         jumped,
         fallen,
     };
-    visit(plan, count, b, way, found);
+    let mut seen = walked + 1;
     if b + 1 == count {
-        return;
+        keep(step(plan, b, 0, way), best);
+        return seen;
     }
     let jump = plan_words::target(plan, b, 1);
-    if open(jump, here.jumps, b, found[0], budget) {
+    if open(jump, here.jumps, b, seen, budget) {
         let next = bar(plan, b, 1, here);
         let on = step(plan, b, 1, way);
-        walk_from(
+        seen = walk_from(
             plan,
             count,
             budget,
@@ -137,14 +128,15 @@ fn walk_from(
             on.weight,
             on.jumped,
             on.fallen,
-            found,
+            seen,
+            best,
         );
     }
     let fall = plan_words::target(plan, b, 2);
-    if open(fall, here.falls, b, found[0], budget) {
+    if open(fall, here.falls, b, seen, budget) {
         let next = bar(plan, b, 2, here);
         let on = step(plan, b, 2, way);
-        walk_from(
+        return walk_from(
             plan,
             count,
             budget,
@@ -154,19 +146,25 @@ fn walk_from(
             on.weight,
             on.jumped,
             on.fallen,
-            found,
+            seen,
+            best,
         );
     }
+    seen
 }
 
-// All that is found from block 0 on.
+// All that is found from block 0 on: how many beginnings, and the words of the route.
 fn search(plan: &[u64; 1024], count: usize, budget: u64) -> [u64; 5]
     requires { ⌜ PlanOf (now plan) count × (budget < 4294967296) ⌝ }
-    ensures { λ r. ⌜ Searched heavier (now (plan .entry)) count budget r ⌝ }
+    ensures { λ r. ⌜ Searched heavier (now (plan .entry)) count budget (foundIn r) ⌝ }
 {
-    let mut found = [0; 5];
-    walk_from(plan, count, budget, 0, 0, 0, 0, 0, 0, &mut found);
-    found
+    let mut best = [0; 4];
+    let walked = walk_from(plan, count, budget, 0, 0, 0, 0, 0, 0, 0, &mut best);
+    let any = best[0];
+    let weight = best[1];
+    let jumped = best[2];
+    let fallen = best[3];
+    [walked, any, weight, jumped, fallen]
 }
 
 // The full walk's answer: the loop count, the weight of the first heaviest route, count times weight, and the number of
