@@ -1,6 +1,6 @@
 -- The answers of the reader and the writer. Trusted: for each answer that is an enum, document 01's number and values
 -- for each of its cases, and what each call answers. A refusal's number is as tabled; 0 stands for none. Rests on Form.
-use mathlib.Core.Bool.{Bool, true, false, not}
+use mathlib.Core.Bool.{Bool, true, false}
 use mathlib.Core.List.{List, _++_}
 use mathlib.Core.Path.{_≡_}
 use Prim.Native.Nat.{ℕ}

@@ -6,7 +6,7 @@ use mathlib.Core.List.{List, [], _∷_, _++_}
 use Prim.Native.Nat.{ℕ, zero, suc, _+_, _-_, _*_, _/_, _%_}
 use lib.Dec.{ltb, leb, eqb}
 use lib.IntN.{ℤ, pos}
-use lib.ListN.{length, getD, take, drop, replicate}
+use lib.ListN.{length, getD, take, drop}
 use mir.Syntax.{w32}
 use mir.Val.{toZ, ofZ}
 use Rattle.form.specs.declared.Kind.{Kind}
@@ -167,7 +167,7 @@ outOfPlace s at b =
 unfoldable pub overLimit : List ℕ → ℕ → ℕ → ℕ → Bool
 overLimit s at b e = (isBlock s at && leb 64 b) || (isEffect s at && leb 256 e)
 
--- 15 of each role
+-- 15 of each role. (A block's number of effects plays no part in judging; it is told as 0 here.)
 unfoldable pub badField : List ℕ → ℕ → Bool
 badField s at =
     (isCounter s at && badCounter (counterAt s at))

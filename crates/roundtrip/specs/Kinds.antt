@@ -9,7 +9,7 @@ use Prim.Native.Nat.{ℕ, _+_, _-_, _*_, _<_, _≤_, _^_}
 use native.Mathlib.Nat.{zero-add, add-assoc, add-zero}
 use native.Mathlib.Omega.{arith}
 use borrow.Author.Tests.{eqb-true}
-use lib.Dec.{eqb, lit<, lit≤}
+use lib.Dec.{eqb, lit<}
 use lib.ListN.{length, drop, length-drop, length-append}
 use lib.Seq.{getD-drop, drop-drop, drop-append-seam}
 use mir.Facts.{ofZ-toZ}

@@ -3,7 +3,7 @@
 -- accepted or not. Rests on Laid, Kinds and Unique (bodies that are the same).
 use mathlib.Core.Bool.{true}
 use mathlib.Core.List.{List, [], _∷_, _++_}
-use mathlib.Core.Path.{_≡_, refl, ap, sym, subst, _∙_}
+use mathlib.Core.Path.{_≡_, ap, sym, subst, _∙_}
 use Prim.Native.Nat.{ℕ, zero, suc, _≤_}
 use native.Mathlib.Omega.{arith}
 use lib.ListN.{length, getD, take, drop, length-drop}
@@ -14,7 +14,7 @@ use Rattle.form.specs.declared.Effect.{Effect}
 use Rattle.form.specs.declared.Body.{Body}
 use Rattle.form.specs.declared.Verdict.the-variants.{Accepted}
 use Rattle.form.specs.Form.{counterRole, blockRole, effectRole, kindOf, kindAt, recordsFrom, gather, ownEffects}
-use Rattle.form.specs.Form.{counterAt, blockAt, effectAt, blocksIn, effectsIn, zeroBlock, zeroEffect, bodyWith, bodyOf}
+use Rattle.form.specs.Form.{blockAt, effectAt, blocksIn, effectsIn, zeroBlock, zeroEffect, bodyWith, bodyOf}
 use Rattle.form.specs.Form.{upToCounts, counterBytes, blockBytes, effectBytes, layBlocks, lay, countsFit, judge}
 use Rattle.form.specs.Answer.{reading}
 use Rattle.form.specs.Laying.{blocksCounted, counts-known}

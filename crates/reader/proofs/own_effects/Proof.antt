@@ -1,7 +1,7 @@
 -- `reader::own_effects` meets its contract. The loop's invariant: those counted and those left are all. The measure is
 -- what is left of the bytes.
 use mathlib.Core.Path.{_≡_, ap, sym, _∙_}
-use Prim.Native.Nat.{ℕ, suc, _+_, _≤_, _-_}
+use Prim.Native.Nat.{_+_, _≤_, _-_}
 use native.Mathlib.Omega.{arith}
 use lib.ListN.{length}
 use Rattle.form.specs.declared.Kind.{Kind}

@@ -57,11 +57,11 @@ returns-3 c =
     (room-short _ _ (fit laid) _ (on-form judged) accepting (rw (laid .lay .ensures .0) at (c .if3 .taken))))
     refl
 
-slice-aggregate-copy-in : tie.Need-slice-aggregate-copy-in
-slice-aggregate-copy-in c = all-laid (c .before .before .before .before .before .before .before .before)
+slice-aggregate-put : tie.Need-slice-aggregate-put
+slice-aggregate-put c = all-laid (c .before .before .before .before .before .before .before .before)
 
-copy-in-requires : tie.Need-copy-in-requires
-copy-in-requires c κs = omega (arith, all-laid (c .before .before .before .before .before .before .before .before))
+put-requires : tie.Need-put-requires
+put-requires c κs = omega (arith, all-laid (c .before .before .before .before .before .before .before .before))
 
 returns-4 : tie.Need-returns-4
 returns-4 c =
@@ -74,11 +74,11 @@ returns-4 c =
     wrote-as _ _ _ _
     (rw (laid .lay .ensures .0)
     (room-enough _ _ (fit laid) _ (on-form judged) accepting (rw (laid .lay .ensures .0) at (roomy .if3 .left))))
-    (copied .copy-in .ensures .1 ∙ pasted-front _ _ _ (laid .lay .ensures .1 .1))
+    (copied .put .ensures .0 .1 ∙ pasted-front _ _ _ (laid .lay .ensures .1 .1))
 
 pub write-spec : {M : Type 1} → statement M
 write-spec =
     tie.close
     (tie.spec (λ _ _. tt) returns (λ c. search needs) lay-requires (λ c. search needs) slice-aggregate-judge (λ _ _. tt)
-    (λ _ _. tt) (λ _ _. tt) returns-2 returns-3 (λ c. search needs) slice-aggregate-copy-in copy-in-requires
+    (λ _ _. tt) (λ _ _. tt) returns-2 returns-3 (λ c. search needs) slice-aggregate-put put-requires
     (λ c. search needs) returns-4)
