@@ -1,5 +1,5 @@
 -- What is owed leaves one answer. For each of the three cases of document 01 the values that the answer then has; that any two
--- answers to one question are the same, for each public call; which one it is; and the count's range. Rests on Answer and on relations.Loops.
+-- answers to one question are the same, for each public call; which one it is; and the count's range. Rests on Answer and on lower_laws' Loops.
 use mathlib.Core.Path.{_≡_, refl, sym, ap, _∙_}
 use mathlib.Core.Bool.{Bool}
 use Prim.Native.Nat.{ℕ, zero, suc, _<_, _≤_}

@@ -11,7 +11,7 @@ use lib.Signed.{ltZ, leZ}
 use mir.Syntax.{w64}
 use mir.Val.{SFits, ofZ}
 use Rattle.laws.specs.Whole.{up, dn, same-ltb, same-leb, same-eqb, ltZ-is, leZ-is, ltZ-true, ltZ-false, le-leZ, lt-leZ}
-use Rattle.form.specs.Relation.{eqZ, meets, opposite}
+use Rattle.form.specs.Relation.{renumbered, eqZ, meets, opposite}
 
 -- ---- the test of equality, as laws.Whole has the tests of order
 pub eqZ-is : (a b : ℤ) → eqZ a b ≡ eqb (up a + dn b) (up b + dn a)
@@ -96,15 +96,9 @@ shifted (suc (suc (suc (suc zero)))) a b c d e = ltZ-same b a d c (omega arith)
 shifted (suc (suc (suc (suc (suc zero))))) a b c d e = leZ-same a b c d e
 shifted (suc (suc (suc (suc (suc (suc m)))))) a b c d e = refl
 
--- ---- in the mirror: the relation of −a to −b where a has this relation to b
+-- ---- in the mirror: the relation of −a to −b where a has this relation to b; < and > change places, and ≥ and ≤
 abbrev pub mirrored : ℕ → ℕ
-mirrored zero = 0
-mirrored (suc zero) = 1
-mirrored (suc (suc zero)) = 4
-mirrored (suc (suc (suc zero))) = 5
-mirrored (suc (suc (suc (suc zero)))) = 2
-mirrored (suc (suc (suc (suc (suc zero))))) = 3
-mirrored (suc (suc (suc (suc (suc (suc m)))))) = suc (suc (suc (suc (suc (suc m)))))
+mirrored relation = renumbered 0 1 4 5 2 3 relation
 
 -- a − b is d − c
 pub turned : (relation : ℕ) (a b c d : ℤ) → up a + dn b + (up c + dn d) ≡ up b + dn a + (up d + dn c) → meets relation a b ≡ meets (mirrored relation) c d

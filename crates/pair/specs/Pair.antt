@@ -1,4 +1,4 @@
--- The question of the pair test: two conditions on one variable. Trusted: definitions only; `contradict` of form's Conflict says, by relations.Conditions, exactly
+-- The question of the pair test: two conditions on one variable. Trusted: definitions only; `contradict` of form's Conflict says, by lower_laws' Conditions, exactly
 -- that no whole number meets both.
 use mathlib.Core.Bool.{Bool}
 use Prim.Native.Nat.{ℕ}

@@ -1,4 +1,4 @@
--- What the pair test's answer says in the document's words, and that the contract leaves one answer. Rests on Pair and relations.Conditions.
+-- What the pair test's answer says in the document's words, and that the contract leaves one answer. Rests on Pair and lower_laws' Conditions.
 use mathlib.Core.Path.{_≡_, refl, sym, _∙_}
 use mathlib.Core.Logic.{_↔_}
 use mathlib.Core.Bool.{Bool, true}
