@@ -12,9 +12,6 @@ use Rattle.counter.proofs.count.Tie as tie
 returns : tie.Need-returns
 returns c = no-relation (c .if1 .taken) refl
 
-passes-requires : tie.Need-passes-requires
-passes-requires c κs = search needs
-
 found : (c : tie.After-passes) → Found (Count (c .before .before .args .initial) (c .before .before .args .step) (c .before .before .args .relation) (c .before .before .args .limit)) (c .passes .result)
 found c =
     let s = c .before .before in
@@ -34,4 +31,6 @@ returns-3 c =
     counted (c .before .before .if1 .left) k (found-some (Count (s .args .initial) (s .args .step) (s .args .relation) (s .args .limit)) k (c .if2 .left) (found (c .before))) refl
 
 pub count-spec : {M : Type 1} → statement M
-count-spec = tie.close (tie.spec returns passes-requires returns-2 returns-3)
+count-spec =
+    tie.close
+    (tie.spec returns (λ c κs. search needs) returns-2 returns-3)

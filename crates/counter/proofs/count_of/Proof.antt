@@ -6,9 +6,6 @@ use mir.Val.{SFits}
 use Rattle.counter.proofs.count_of.Statement.{statement}
 use Rattle.counter.proofs.count_of.Tie as tie
 
-count-requires : tie.Need-count-requires
-count-requires c κs = search needs
-
 returns : tie.Need-returns
 returns c =
     let t = c .before .struct-told3 .given in
@@ -19,4 +16,6 @@ returns c =
     rw (toZ-ofZ fi, toZ-ofZ fs, toZ-ofZ fl) at (c .count .ensures)
 
 pub count-of-spec : {M : Type 1} → statement M
-count-of-spec = tie.close (tie.spec count-requires returns)
+count-of-spec =
+    tie.close
+    (tie.spec (λ c κs. search needs) returns)

@@ -12,18 +12,6 @@ use Rattle.lower_laws.specs.Loops.{smallest, some-room-down, count-down}
 use Rattle.counter.proofs.downward.Statement.{statement}
 use Rattle.counter.proofs.downward.Tie as tie
 
-negated-requires : tie.Need-negated-requires
-negated-requires c κs = search needs
-
-mirrored-requires : tie.Need-mirrored-requires
-mirrored-requires c κs = search needs
-
-difference-requires : tie.Need-difference-requires
-difference-requires c κs = search needs
-
-difference-requires-2 : tie.Need-difference-requires-2
-difference-requires-2 c κs = search needs
-
 -- what `within` is handed
 step-is : (c : tie.After-negated) → up (toZ w64 (ofZ w64 (c .negated .result))) ≡ dn (c .before .args .step)
 step-is c =
@@ -55,10 +43,5 @@ returns c =
 pub downward-spec : {M : Type 1} → statement M
 downward-spec =
     tie.close
-    (tie.spec
-    negated-requires
-    mirrored-requires
-    difference-requires
-    difference-requires-2
-    within-requires
-    returns)
+    (tie.spec (λ c κs. search needs) (λ c κs. search needs) (λ c κs. search needs) (λ c κs. search needs)
+    within-requires returns)

@@ -15,9 +15,6 @@ use Rattle.lower_laws.specs.Steps.{later, later-never, first}
 use Rattle.counter.proofs.first.Statement.{statement}
 use Rattle.counter.proofs.first.Tie as tie
 
-meets-requires : tie.Need-meets-requires
-meets-requires c κs = search needs
-
 -- what `meets` says of the first step
 met : (c : tie.After-meets) → c .meets .result ≡ meets (c .before .args .relation) (pos (up (c .before .args .step))) (c .before .args .gap)
 met c =
@@ -96,14 +93,5 @@ returns-6 c =
 pub first-spec : {M : Type 1} → statement M
 first-spec =
     tie.close
-    (tie.spec
-    meets-requires
-    returns
-    exactly-requires
-    not-below-requires
-    above-requires
-    returns-2
-    returns-3
-    returns-4
-    returns-5
-    returns-6)
+    (tie.spec (λ c κs. search needs) returns exactly-requires not-below-requires above-requires returns-2 returns-3
+    returns-4 returns-5 returns-6)

@@ -21,9 +21,6 @@ downward-requires c κs =
     let s = c .before .before in
     rw (toZ-ofZ (s .fits .step)) (omega (arith, ltZ-true (s .args .step) (pos 0) (rw (toZ-ofZ (s .fits .step)) at (c .if2 .taken))))
 
-still-requires : tie.Need-still-requires
-still-requires c κs = search needs
-
 -- what the callees were handed, read back
 back : (s : tie.Start) → countOf (toZ w32 (ofZ w32 (s .args .initial))) (toZ w32 (ofZ w32 (s .args .step))) (s .args .relation) (toZ w32 (ofZ w32 (s .args .limit))) ≡ countOf (s .args .initial) (s .args .step) (s .args .relation) (s .args .limit)
 back s i = countOf (toZ-ofZ (s .fits .initial) i) (toZ-ofZ (s .fits .step) i) (s .args .relation) (toZ-ofZ (s .fits .limit) i)
@@ -49,4 +46,4 @@ returns-3 c =
 pub passes-spec : {M : Type 1} → statement M
 passes-spec =
     tie.close
-    (tie.spec upward-requires downward-requires still-requires returns returns-2 returns-3)
+    (tie.spec upward-requires downward-requires (λ c κs. search needs) returns returns-2 returns-3)

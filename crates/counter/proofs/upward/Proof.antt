@@ -12,15 +12,6 @@ use Rattle.lower_laws.specs.Loops.{greatest, some-room-up, count-up}
 use Rattle.counter.proofs.upward.Statement.{statement}
 use Rattle.counter.proofs.upward.Tie as tie
 
-wide-requires : tie.Need-wide-requires
-wide-requires c κs = search needs
-
-difference-requires : tie.Need-difference-requires
-difference-requires c κs = search needs
-
-difference-requires-2 : tie.Need-difference-requires-2
-difference-requires-2 c κs = search needs
-
 -- what `within` is handed
 step-is : (c : tie.After-wide) → toZ w64 (ofZ w64 (c .wide .result)) ≡ c .before .args .step
 step-is c = widened (c .before .fits .step) (c .wide .ok) (c .wide .ensures)
@@ -47,4 +38,4 @@ returns c =
 pub upward-spec : {M : Type 1} → statement M
 upward-spec =
     tie.close
-    (tie.spec wide-requires difference-requires difference-requires-2 within-requires returns)
+    (tie.spec (λ c κs. search needs) (λ c κs. search needs) (λ c κs. search needs) within-requires returns)

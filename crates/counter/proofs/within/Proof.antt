@@ -9,12 +9,6 @@ use Rattle.lower_laws.specs.Steps.{first, within-room, beyond-room}
 use Rattle.counter.proofs.within.Statement.{statement}
 use Rattle.counter.proofs.within.Tie as tie
 
-first-requires : tie.Need-first-requires
-first-requires c κs = search needs
-
-quotient-requires : tie.Need-quotient-requires
-quotient-requires c κs = search needs
-
 first-is : (c : tie.After-first) → c .first .result ≡ first (up (c .before .args .step)) (c .before .args .relation) (c .before .args .gap)
 first-is c =
     let s = c .before in
@@ -36,4 +30,6 @@ returns-2 c =
     sym (beyond-room (up (s .args .step)) (s .args .relation) (s .args .gap) (up (s .args .room)) (omega (arith, first-is (c .before .before), room-is (c .before))))
 
 pub within-spec : {M : Type 1} → statement M
-within-spec = tie.close (tie.spec first-requires quotient-requires returns returns-2)
+within-spec =
+    tie.close
+    (tie.spec (λ c κs. search needs) (λ c κs. search needs) returns returns-2)

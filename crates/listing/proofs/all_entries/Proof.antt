@@ -16,27 +16,6 @@ abbrev μ-loop : tie.MeasureT-loop
 loop-holds : tie.Need-loop-holds Inv-loop μ-loop
 loop-holds c = (omega arith, laid-none _ _)
 
-shared-slice-read-v : tie.Need-shared-slice-read-v Inv-loop μ-loop
-shared-slice-read-v c = omega arith
-
-mul-edge-entries : tie.Need-mul-edge-entries Inv-loop μ-loop
-mul-edge-entries c = omega arith
-
-shared-slice-read-edge-entries : tie.Need-shared-slice-read-edge-entries Inv-loop μ-loop
-shared-slice-read-edge-entries c = omega arith
-
-mul-edge-entries-2 : tie.Need-mul-edge-entries-2 Inv-loop μ-loop
-mul-edge-entries-2 c = omega arith
-
-shared-slice-read-edge-entries-2 : tie.Need-shared-slice-read-edge-entries-2 Inv-loop μ-loop
-shared-slice-read-edge-entries-2 c = omega arith
-
-mul-edge-entries-3 : tie.Need-mul-edge-entries-3 Inv-loop μ-loop
-mul-edge-entries-3 c = omega arith
-
-shared-slice-read-edge-entries-3 : tie.Need-shared-slice-read-edge-entries-3 Inv-loop μ-loop
-shared-slice-read-edge-entries-3 c = omega arith
-
 edge-entries-requires : tie.Need-edge-entries-requires Inv-loop μ-loop
 edge-entries-requires c κs =
     let at = c .before .before .before .before .before .before in
@@ -44,24 +23,6 @@ edge-entries-requires c κs =
     let a = start .args in
     let room = all-room (a .out .now) (a .variable .now) (a .a1 .now) (a .j1 .now) (a .f1 .now) (a .a2 .now) (a .j2 .now) (a .f2 .now) (at .loop .out) (at .loop .at) (at .loop .s) (at .loop .inv .1) (omega arith) (start .pre .1) in
     (omega arith, omega (arith, room))
-
-mul-edge-entries-4 : tie.Need-mul-edge-entries-4 Inv-loop μ-loop
-mul-edge-entries-4 c = omega arith
-
-shared-slice-read-edge-entries-4 : tie.Need-shared-slice-read-edge-entries-4 Inv-loop μ-loop
-shared-slice-read-edge-entries-4 c = omega arith
-
-mul-edge-entries-5 : tie.Need-mul-edge-entries-5 Inv-loop μ-loop
-mul-edge-entries-5 c = omega arith
-
-shared-slice-read-edge-entries-5 : tie.Need-shared-slice-read-edge-entries-5 Inv-loop μ-loop
-shared-slice-read-edge-entries-5 c = omega arith
-
-mul-edge-entries-6 : tie.Need-mul-edge-entries-6 Inv-loop μ-loop
-mul-edge-entries-6 c = omega arith
-
-shared-slice-read-edge-entries-6 : tie.Need-shared-slice-read-edge-entries-6 Inv-loop μ-loop
-shared-slice-read-edge-entries-6 c = omega arith
 
 edge-entries-requires-2 : tie.Need-edge-entries-requires-2 Inv-loop μ-loop
 edge-entries-requires-2 c κs =
@@ -71,12 +32,6 @@ edge-entries-requires-2 c κs =
     let first = c .before .before .before .before .before .before in
     let room = all-room (a .out .now) (a .variable .now) (a .a1 .now) (a .j1 .now) (a .f1 .now) (a .a2 .now) (a .j2 .now) (a .f2 .now) (at .loop .out) (at .loop .at) (at .loop .s) (at .loop .inv .1) (omega arith) (start .pre .1) in
     (omega arith, omega (arith, room, first .edge-entries .ensures .0, first .edge-entries .kept .0))
-
-add-s : tie.Need-add-s Inv-loop μ-loop
-add-s c = omega arith
-
-loop-less : tie.Need-loop-less Inv-loop μ-loop
-loop-less c = omega arith
 
 loop-again : tie.Need-loop-again Inv-loop μ-loop
 loop-again c =
@@ -101,27 +56,7 @@ returns c =
 pub all-entries-spec : {M : Type 1} → statement M
 all-entries-spec =
     tie.close
-    (tie.spec
-    Inv-loop
-    μ-loop
-    loop-holds
-    shared-slice-read-v
-    mul-edge-entries
-    shared-slice-read-edge-entries
-    mul-edge-entries-2
-    shared-slice-read-edge-entries-2
-    mul-edge-entries-3
-    shared-slice-read-edge-entries-3
-    edge-entries-requires
-    mul-edge-entries-4
-    shared-slice-read-edge-entries-4
-    mul-edge-entries-5
-    shared-slice-read-edge-entries-5
-    mul-edge-entries-6
-    shared-slice-read-edge-entries-6
-    edge-entries-requires-2
-    add-s
-    loop-less
-    loop-again
-    same-length
-    returns)
+    (tie.spec Inv-loop μ-loop loop-holds (λ c. omega arith) (λ c. omega arith) (λ c. omega arith) (λ c. omega arith)
+    (λ c. omega arith) (λ c. omega arith) (λ c. omega arith) edge-entries-requires (λ c. omega arith)
+    (λ c. omega arith) (λ c. omega arith) (λ c. omega arith) (λ c. omega arith) (λ c. omega arith)
+    edge-entries-requires-2 (λ c. omega arith) (λ c. omega arith) loop-again same-length returns)

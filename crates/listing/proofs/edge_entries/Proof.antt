@@ -15,9 +15,6 @@ entries-requires-2 c κs =
     let start = c .before .before .before .before .before .before in
     (start .pre .0, omega (arith, start .pre .1, edge-length (start .args .assigned) (start .args .jump) (start .args .fall) (start .args .variable) (start .args .second) (start .args .outcome), c .before .before .before .entries .ensures .0, c .before .before .before .entries .kept .0))
 
-same-length : tie.Need-same-length
-same-length c = search needs
-
 returns : tie.Need-returns
 returns c =
     let start = c .before .before .before .before .before .before .before .before .before in
@@ -25,4 +22,6 @@ returns c =
     (c .before .before .entries2 .ensures .0) (c .before .before .entries2 .ensures .1)
 
 pub edge-entries-spec : {M : Type 1} → statement M
-edge-entries-spec = tie.close (tie.spec entries-requires entries-requires-2 same-length returns)
+edge-entries-spec =
+    tie.close
+    (tie.spec entries-requires entries-requires-2 (λ c. search needs) returns)

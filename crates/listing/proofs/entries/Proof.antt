@@ -18,12 +18,6 @@ abbrev μ-loop : tie.MeasureT-loop
 loop-holds : tie.Need-loop-holds Inv-loop μ-loop
 loop-holds c = (omega arith, laid-none _ _)
 
-has-requires : tie.Need-has-requires Inv-loop μ-loop
-has-requires c κs = search needs
-
-has-requires-2 : tie.Need-has-requires-2 Inv-loop μ-loop
-has-requires-2 c κs = search needs
-
 entry-requires : tie.Need-entry-requires Inv-loop μ-loop
 entry-requires c κs =
     let at = c .before .before .before .before in
@@ -42,12 +36,6 @@ entry-requires-2 c κs =
     turn-room (start .args .out .now) (start .args .start) (start .args .kind) (start .args .word) (start .args .third) (start .args .other) (start .args .another) (start .args .second) (start .args .outcome) (at .loop .out) (at .loop .at) (at .loop .f) _ _
     (c .before .before .before .before .before .before .has .ensures) (c .before .before .before .before .before .has2 .ensures) (at .loop .inv .1) (omega arith) (start .pre .1) in
     ((omega arith, start .pre .0), omega (arith, first .entry .ensures .0, first .entry .kept .0))
-
-add-f : tie.Need-add-f Inv-loop μ-loop
-add-f c = omega arith
-
-loop-less : tie.Need-loop-less Inv-loop μ-loop
-loop-less c = omega arith
 
 loop-again : tie.Need-loop-again Inv-loop μ-loop
 loop-again c =
@@ -71,16 +59,5 @@ returns c =
 pub entries-spec : {M : Type 1} → statement M
 entries-spec =
     tie.close
-    (tie.spec
-    Inv-loop
-    μ-loop
-    loop-holds
-    has-requires
-    has-requires-2
-    entry-requires
-    entry-requires-2
-    add-f
-    loop-less
-    loop-again
-    same-length
-    returns)
+    (tie.spec Inv-loop μ-loop loop-holds (λ c κs. search needs) (λ c κs. search needs) entry-requires entry-requires-2
+    (λ c. omega arith) (λ c. omega arith) loop-again same-length returns)

@@ -22,9 +22,6 @@ found-number-requires c κs =
     let start = local .before .before in
     found-rows _ _ (found-told (start .args .body) (start .pre .few) _ (c .find .ensures (start .args .body) (start .pre) (local .local-of .ensures)))
 
-mul-bytes : tie.Need-mul-bytes
-mul-bytes c = search needs
-
 returns : tie.Need-returns
 returns c =
     let number = c .before in
@@ -48,9 +45,6 @@ found-entries-requires c κs =
       omega (arith, ap length same, has-room (start .args .body) _ (length (start .args .out .now)) is (c .before .if1 .left)),
     )
 
-same-length : tie.Need-same-length
-same-length c = search needs
-
 returns-2 : tie.Need-returns-2
 returns-2 c =
     let wrote = c .before .before in
@@ -70,12 +64,5 @@ returns-2 c =
 pub list-of-spec : {M : Type 1} → statement M
 list-of-spec =
     tie.close
-    (tie.spec
-    (λ c κs. search needs)
-    find-requires
-    found-number-requires
-    mul-bytes
-    returns
-    found-entries-requires
-    same-length
-    returns-2)
+    (tie.spec (λ c κs. search needs) find-requires found-number-requires (λ c. search needs) returns
+    found-entries-requires (λ c. search needs) returns-2)

@@ -19,48 +19,6 @@ abbrev μ-loop : tie.MeasureT-loop
 loop-holds : tie.Need-loop-holds Inv-loop μ-loop
 loop-holds c = (omega arith, omega arith, sym (sum-none _))
 
-mul-ones : tie.Need-mul-ones Inv-loop μ-loop
-mul-ones c = omega arith
-
-shared-slice-read-ones : tie.Need-shared-slice-read-ones Inv-loop μ-loop
-shared-slice-read-ones c = omega arith
-
-ones-requires : tie.Need-ones-requires Inv-loop μ-loop
-ones-requires c κs = search needs
-
-mul-ones-2 : tie.Need-mul-ones-2 Inv-loop μ-loop
-mul-ones-2 c = omega arith
-
-shared-slice-read-ones-2 : tie.Need-shared-slice-read-ones-2 Inv-loop μ-loop
-shared-slice-read-ones-2 c = omega arith
-
-ones-requires-2 : tie.Need-ones-requires-2 Inv-loop μ-loop
-ones-requires-2 c κs = search needs
-
-mul-ones-3 : tie.Need-mul-ones-3 Inv-loop μ-loop
-mul-ones-3 c = omega arith
-
-shared-slice-read-ones-3 : tie.Need-shared-slice-read-ones-3 Inv-loop μ-loop
-shared-slice-read-ones-3 c = omega arith
-
-ones-requires-3 : tie.Need-ones-requires-3 Inv-loop μ-loop
-ones-requires-3 c κs = search needs
-
-add-n : tie.Need-add-n Inv-loop μ-loop
-add-n c = omega arith
-
-add-n-2 : tie.Need-add-n-2 Inv-loop μ-loop
-add-n-2 c = omega arith
-
-add-n-3 : tie.Need-add-n-3 Inv-loop μ-loop
-add-n-3 c = omega arith
-
-add-s : tie.Need-add-s Inv-loop μ-loop
-add-s c = omega arith
-
-loop-less : tie.Need-loop-less Inv-loop μ-loop
-loop-less c = omega arith
-
 loop-again : tie.Need-loop-again Inv-loop μ-loop
 loop-again c =
     let at = c .before .before .before .before .before .before .before in
@@ -84,23 +42,7 @@ returns c =
 pub number-of-spec : {M : Type 1} → statement M
 number-of-spec =
     tie.close
-    (tie.spec
-    Inv-loop
-    μ-loop
-    loop-holds
-    mul-ones
-    shared-slice-read-ones
-    ones-requires
-    mul-ones-2
-    shared-slice-read-ones-2
-    ones-requires-2
-    mul-ones-3
-    shared-slice-read-ones-3
-    ones-requires-3
-    add-n
-    add-n-2
-    add-n-3
-    add-s
-    loop-less
-    loop-again
-    returns)
+    (tie.spec Inv-loop μ-loop loop-holds (λ c. omega arith) (λ c. omega arith) (λ c κs. search needs)
+    (λ c. omega arith) (λ c. omega arith) (λ c κs. search needs) (λ c. omega arith) (λ c. omega arith)
+    (λ c κs. search needs) (λ c. omega arith) (λ c. omega arith) (λ c. omega arith) (λ c. omega arith)
+    (λ c. omega arith) loop-again returns)

@@ -19,9 +19,6 @@ abbrev μ-loop : tie.MeasureT-loop
 loop-holds : tie.Need-loop-holds Inv-loop μ-loop
 loop-holds c = (omega arith, sorted-none 256 _ _)
 
-shared-slice-read-v : tie.Need-shared-slice-read-v Inv-loop μ-loop
-shared-slice-read-v c = omega arith
-
 cast-v : tie.Need-cast-v Inv-loop μ-loop
 cast-v c = omega (arith, c .shared-slice-known2 .given (c .before .before .loop .i) .fits)
 
@@ -31,20 +28,11 @@ mul-put c = omega (arith, c .shared-slice-known2 .given (c .before .before .loop
 array-read-put : tie.Need-array-read-put Inv-loop μ-loop
 array-read-put c = omega (arith, c .shared-slice-known2 .given (c .before .before .loop .i) .fits)
 
-put-requires : tie.Need-put-requires Inv-loop μ-loop
-put-requires c κs = omega arith
-
 mul-r : tie.Need-mul-r Inv-loop μ-loop
 mul-r c = omega (arith, c .before .before .shared-slice-known2 .given (c .before .before .before .before .loop .i) .fits)
 
 array-write-r : tie.Need-array-write-r Inv-loop μ-loop
 array-write-r c = omega (arith, c .before .before .shared-slice-known2 .given (c .before .before .before .before .loop .i) .fits)
-
-add-i : tie.Need-add-i Inv-loop μ-loop
-add-i c = omega arith
-
-loop-less : tie.Need-loop-less Inv-loop μ-loop
-loop-less c = omega arith
 
 loop-again : tie.Need-loop-again Inv-loop μ-loop
 loop-again c =
@@ -63,4 +51,5 @@ returns c =
 pub tests-by-variable-spec : {M : Type 1} → statement M
 tests-by-variable-spec =
     tie.close
-    (tie.spec Inv-loop μ-loop loop-holds shared-slice-read-v cast-v mul-put array-read-put (λ _ _. tt) put-requires mul-r array-write-r add-i loop-less loop-again returns)
+    (tie.spec Inv-loop μ-loop loop-holds (λ c. omega arith) cast-v mul-put array-read-put (λ _ _. tt)
+    (λ c κs. omega arith) mul-r array-write-r (λ c. omega arith) (λ c. omega arith) loop-again returns)

@@ -29,42 +29,6 @@ loop-holds c = (omega arith, told-none _ _ _ _ refl, told-none _ _ _ _ refl, tol
 reach-if-requires : tie.Need-reach-if-requires Inv-loop μ-loop
 reach-if-requires c κs = let p = c .before .before .before .before .before .before .before .before .before .pre in (p .0, (p .1 .0, omega arith))
 
-mul-assigned : tie.Need-mul-assigned Inv-loop μ-loop
-mul-assigned c = omega arith
-
-array-write-assigned : tie.Need-array-write-assigned Inv-loop μ-loop
-array-write-assigned c = omega arith
-
-mul-both : tie.Need-mul-both Inv-loop μ-loop
-mul-both c = omega arith
-
-shared-slice-read-both : tie.Need-shared-slice-read-both Inv-loop μ-loop
-shared-slice-read-both c = omega arith
-
-mul-jumps : tie.Need-mul-jumps Inv-loop μ-loop
-mul-jumps c = omega arith
-
-array-write-jumps : tie.Need-array-write-jumps Inv-loop μ-loop
-array-write-jumps c = omega arith
-
-mul-both-2 : tie.Need-mul-both-2 Inv-loop μ-loop
-mul-both-2 c = omega arith
-
-shared-slice-read-both-2 : tie.Need-shared-slice-read-both-2 Inv-loop μ-loop
-shared-slice-read-both-2 c = omega arith
-
-mul-falls : tie.Need-mul-falls Inv-loop μ-loop
-mul-falls c = omega arith
-
-array-write-falls : tie.Need-array-write-falls Inv-loop μ-loop
-array-write-falls c = omega arith
-
-add-s : tie.Need-add-s Inv-loop μ-loop
-add-s c = omega arith
-
-loop-less : tie.Need-loop-less Inv-loop μ-loop
-loop-less c = omega arith
-
 loop-again : tie.Need-loop-again Inv-loop μ-loop
 loop-again c =
     let found = c .before .before .before .before in
@@ -100,25 +64,7 @@ returns c =
 pub firsts-of-spec : {M : Type 1} → statement M
 firsts-of-spec =
     tie.close
-    (tie.spec
-    Inv-loop
-    μ-loop
-    loop-holds
-    (λ _ _. tt)
-    reach-if-requires
-    mul-assigned
-    array-write-assigned
-    mul-both
-    shared-slice-read-both
-    (λ _ _. tt)
-    mul-jumps
-    array-write-jumps
-    mul-both-2
-    shared-slice-read-both-2
-    (λ _ _. tt)
-    mul-falls
-    array-write-falls
-    add-s
-    loop-less
-    loop-again
-    returns)
+    (tie.spec Inv-loop μ-loop loop-holds (λ _ _. tt) reach-if-requires (λ c. omega arith) (λ c. omega arith)
+    (λ c. omega arith) (λ c. omega arith) (λ _ _. tt) (λ c. omega arith) (λ c. omega arith) (λ c. omega arith)
+    (λ c. omega arith) (λ _ _. tt) (λ c. omega arith) (λ c. omega arith) (λ c. omega arith) (λ c. omega arith)
+    loop-again returns)

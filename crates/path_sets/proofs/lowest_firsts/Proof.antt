@@ -22,32 +22,17 @@ abbrev μ-loop : tie.MeasureT-loop
 loop-holds : tie.Need-loop-holds Inv-loop μ-loop
 loop-holds c = (omega arith, sorted-none 64 _ _)
 
-mul-all : tie.Need-mul-all Inv-loop μ-loop
-mul-all c = omega arith
-
-shared-slice-read-all : tie.Need-shared-slice-read-all Inv-loop μ-loop
-shared-slice-read-all c = omega arith
-
 mul-put : tie.Need-mul-put Inv-loop μ-loop
 mul-put c = omega (arith, c .lowest .ensures .0)
 
 array-read-put : tie.Need-array-read-put Inv-loop μ-loop
 array-read-put c = c .lowest .ensures .0
 
-put-requires : tie.Need-put-requires Inv-loop μ-loop
-put-requires c κs = omega arith
-
 mul-r : tie.Need-mul-r Inv-loop μ-loop
 mul-r c = omega (arith, c .before .lowest .ensures .0)
 
 array-write-r : tie.Need-array-write-r Inv-loop μ-loop
 array-write-r c = c .before .lowest .ensures .0
-
-add-s : tie.Need-add-s Inv-loop μ-loop
-add-s c = omega arith
-
-loop-less : tie.Need-loop-less Inv-loop μ-loop
-loop-less c = omega arith
 
 loop-again : tie.Need-loop-again Inv-loop μ-loop
 loop-again c =
@@ -67,4 +52,5 @@ returns c =
 pub lowest-firsts-spec : {M : Type 1} → statement M
 lowest-firsts-spec =
     tie.close
-    (tie.spec Inv-loop μ-loop loop-holds mul-all shared-slice-read-all (λ _ _. tt) mul-put array-read-put put-requires mul-r array-write-r add-s loop-less loop-again returns)
+    (tie.spec Inv-loop μ-loop loop-holds (λ c. omega arith) (λ c. omega arith) (λ _ _. tt) mul-put array-read-put
+    (λ c κs. omega arith) mul-r array-write-r (λ c. omega arith) (λ c. omega arith) loop-again returns)
