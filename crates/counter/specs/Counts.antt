@@ -1,5 +1,5 @@
--- The counts of document 01, 'The trainer's cases', as one table under one claim: for each question the one answer that is owed. The largest stands among them. Rests on
--- Uniqueness.
+-- The counts of document 01, 'The trainer's cases', as one table under one claim: for each question the one answer
+-- that is owed. The largest stands among them. Rests on Uniqueness.
 use mathlib.Core.Path.{_≡_, refl, ap, _∙_}
 use mathlib.Core.List.{List, [], _∷_}
 use Prim.Native.Nat.{ℕ, _≤_}
@@ -40,9 +40,11 @@ questions =
 
 abbrev pub Claimed : List Question → Type 0
 Claimed [] = Unit {0}
-Claimed (q ∷ rest) = ((a : Counted) → Owed (q .initial) (q .step) (q .relation) (q .limit) (said a) → a ≡ answerOf (q .count)) × Claimed rest
+Claimed (q ∷ rest) = ((a : Counted) → Owed (q .initial) (q .step) (q .relation) (q .limit) (said a)
+    → a ≡ answerOf (q .count)) × Claimed rest
 
-by-computing : (q : Question) → SFits w32 (q .initial) → q .relation ≤ 5 → countOf (q .initial) (q .step) (q .relation) (q .limit) ≡ q .count
+by-computing : (q : Question) → SFits w32 (q .initial) → q .relation ≤ 5
+    → countOf (q .initial) (q .step) (q .relation) (q .limit) ≡ q .count
     → (a : Counted) → Owed (q .initial) (q .step) (q .relation) (q .limit) (said a) → a ≡ answerOf (q .count)
 by-computing q fits known e a o = decided (q .initial) (q .step) (q .relation) (q .limit) fits known a o ∙ ap answerOf e
 

@@ -1,4 +1,5 @@
--- `counter::count_of` meets its contract. A field of a struct is read back from its bits, and the struct tells that each fits.
+-- `counter::count_of` meets its contract. A field of a struct is read back from its bits, and the struct tells that
+-- each fits.
 use borrow.Author.Needs.{needs}
 use mir.Facts.{toZ-ofZ}
 use mir.Syntax.{w32}

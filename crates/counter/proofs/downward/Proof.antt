@@ -18,12 +18,15 @@ step-is c =
     let s = c .before in
     ap up (handed (c .negated .ok) (c .negated .ensures ∙ ap negℤ (toZ-ofZ (s .fits .step)))) ∙ up-neg (s .args .step)
 
-gap-is : (c : tie.After-difference) → toZ w64 (ofZ w64 (c .difference .result)) ≡ c .before .before .before .args .initial -ℤ c .before .before .before .args .limit
+gap-is : (c : tie.After-difference)
+    → toZ w64 (ofZ w64 (c .difference .result))
+    ≡ c .before .before .before .args .initial -ℤ c .before .before .before .args .limit
 gap-is c =
     let s = c .before .before .before in
     widened-diff (s .fits .initial) (s .fits .limit) (c .difference .ok) (c .difference .ensures)
 
-room-is : (c : tie.After-difference2) → toZ w64 (ofZ w64 (c .difference2 .result)) ≡ c .before .before .before .before .args .initial -ℤ smallest
+room-is : (c : tie.After-difference2)
+    → toZ w64 (ofZ w64 (c .difference2 .result)) ≡ c .before .before .before .before .args .initial -ℤ smallest
 room-is c =
     let f : SFits w32 smallest = sfits-lit tt in
     widened-diff (c .before .before .before .before .fits .initial) f (c .difference2 .ok) (c .difference2 .ensures)
@@ -38,7 +41,9 @@ returns c =
     let d = c .before in
     let m = d .before .before in
     let s = m .before .before in
-    c .within .ensures ∙ (λ i. within (step-is (m .before) i) (m .mirrored .ensures i) (gap-is (d .before) i) (up (room-is d i))) ∙ sym (count-down (s .args .initial) (s .args .step) (s .args .relation) (s .args .limit) (s .pre))
+    c .within .ensures ∙ (λ i. within (step-is (m .before) i) (m .mirrored .ensures i) (gap-is (d .before) i)
+    (up (room-is d i))) ∙ sym (count-down (s .args .initial) (s .args .step) (s .args .relation) (s .args .limit)
+    (s .pre))
 
 pub downward-spec : {M : Type 1} → statement M
 downward-spec =

@@ -11,4 +11,5 @@ last : tie.Need-returns-7
 last c = above-five (λ n. n ≡ mirrored n) (λ m. refl) (c .before .args .relation) (omega arith)
 
 pub mirrored-spec : {M : Type 1} → statement M
-mirrored-spec = tie.close (tie.spec (λ c. search needs) (λ c. search needs) (λ c. search needs) (λ c. search needs) (λ c. search needs) (λ c. search needs) last)
+mirrored-spec = tie.close (tie.spec (λ c. search needs) (λ c. search needs) (λ c. search needs) (λ c. search needs)
+    (λ c. search needs) (λ c. search needs) last)

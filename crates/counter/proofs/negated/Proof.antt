@@ -1,4 +1,5 @@
--- `counter::negated` meets its contract. The machine takes the widened number from 0, and the difference fits, for the least i32 too.
+-- `counter::negated` meets its contract. The machine takes the widened number from 0, and the difference fits, for
+-- the least i32 too.
 use borrow.Author.Needs.{needs}
 use mathlib.Core.Path.{_≡_, _∙_, ap}
 use lib.IntN.{ℤ, pos, negℤ, _-ℤ_, +ℤ-idl}

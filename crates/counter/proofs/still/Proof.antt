@@ -8,12 +8,14 @@ use Rattle.lower_laws.specs.Loops.{countOf}
 use Rattle.counter.proofs.still.Statement.{statement}
 use Rattle.counter.proofs.still.Tie as tie
 
-met : (c : tie.After-meets) → c .meets .result ≡ meets (c .before .before .before .args .relation) (c .before .before .before .args .initial) (c .before .before .before .args .limit)
+met : (c : tie.After-meets) → c .meets .result ≡ meets (c .before .before .before .args .relation)
+    (c .before .before .before .args .initial) (c .before .before .before .args .limit)
 met c =
     let s = c .before .before .before in
     let from = c .before .before .wide in
     let to = c .before .wide2 in
-    c .meets .ensures ∙ (λ i. meets (s .args .relation) (widened (s .fits .initial) (from .ok) (from .ensures) i) (widened (s .fits .limit) (to .ok) (to .ensures) i))
+    c .meets .ensures ∙ (λ i. meets (s .args .relation) (widened (s .fits .initial) (from .ok) (from .ensures) i)
+    (widened (s .fits .limit) (to .ok) (to .ensures) i))
 
 returns : tie.Need-returns
 unfolding countOf

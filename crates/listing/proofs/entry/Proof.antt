@@ -35,7 +35,11 @@ slice-write-out-5 c =
     simp length-set (omega arith)
 
 returns-2 : tie.Need-returns-2
-returns-2 c = let on = not-false (c .before .args .on) (c .if1 .left) in rw on (refl, five (c .before .args .out .now) (c .before .args .at) (c .before .args .kind) (c .before .args .first) (c .before .args .third) (c .before .args .second) (c .before .args .outcome))
+returns-2 c = let on = not-false (c .before .args .on) (c .if1 .left) in rw on (
+  refl,
+  five (c .before .args .out .now) (c .before .args .at) (c .before .args .kind) (c .before .args .first)
+      (c .before .args .third) (c .before .args .second) (c .before .args .outcome),
+)
 
 pub entry-spec : {M : Type 1} → statement M
 entry-spec =

@@ -1,4 +1,5 @@
--- `listing::number_of` meets its contract. The loop's invariant: n is the sum of the rows below s. The measure is what is left of the 64.
+-- `listing::number_of` meets its contract. The loop's invariant: n is the sum of the rows below s. The measure is
+-- what is left of the 64.
 use mathlib.Core.Path.{_≡_, sym, ap, _∙_}
 use Prim.Native.Nat.{ℕ, _+_, _*_, _-_, _≤_}
 use native.Mathlib.Omega.{arith}
@@ -23,11 +24,17 @@ loop-again : tie.Need-loop-again Inv-loop μ-loop
 loop-again c =
     let at = c .before .before .before .before .before .before .before in
     let a = at .before .before .before .before .args in
-    let more : at .loop .n + (c .before .before .before .before .ones .result + (c .before .before .ones2 .result + c .ones3 .result)) ≡ sum (at .loop .s) (λ i. ones (getD (a .a .now) i 0) + (ones (getD (a .j .now) i 0) + ones (getD (a .f .now) i 0))) + (ones (getD (a .a .now) (at .loop .s) 0) + (ones (getD (a .j .now) (at .loop .s) 0) + ones (getD (a .f .now) (at .loop .s) 0))) =
-    λ i. at .loop .inv .2 i + (c .before .before .before .before .ones .ensures .0 i + (c .before .before .ones2 .ensures .0 i + c .ones3 .ensures .0 i)) in (
+    let more : at .loop .n + (c .before .before .before .before .ones .result +
+    (c .before .before .ones2 .result + c .ones3 .result)) ≡ sum (at .loop .s)
+    (λ i. ones (getD (a .a .now) i 0) + (ones (getD (a .j .now) i 0) + ones (getD (a .f .now) i 0))) +
+    (ones (getD (a .a .now) (at .loop .s) 0) +
+    (ones (getD (a .j .now) (at .loop .s) 0) + ones (getD (a .f .now) (at .loop .s) 0))) =
+    λ i. at .loop .inv .2 i + (c .before .before .before .before .ones .ensures .0 i +
+    (c .before .before .ones2 .ensures .0 i + c .ones3 .ensures .0 i)) in (
       omega arith,
       omega (arith, c .before .before .before .before .ones .ensures .1, c .before .before .ones2 .ensures .1, c .ones3 .ensures .1, at .loop .inv .1),
-      more ∙ sym (sum-last (at .loop .s) (λ i. ones (getD (a .a .now) i 0) + (ones (getD (a .j .now) i 0) + ones (getD (a .f .now) i 0)))),
+      more ∙ sym (sum-last (at .loop .s)
+          (λ i. ones (getD (a .a .now) i 0) + (ones (getD (a .j .now) i 0) + ones (getD (a .f .now) i 0)))),
     )
 
 returns : tie.Need-returns Inv-loop μ-loop
@@ -35,7 +42,8 @@ returns c =
     let at = c .before in
     let a = at .before .before .before .before .args in
     let all : at .loop .s ≡ 64 = omega arith in (
-      at .loop .inv .2 ∙ ap (λ (n : ℕ). sum n (λ i. ones (getD (a .a .now) i 0) + (ones (getD (a .j .now) i 0) + ones (getD (a .f .now) i 0)))) all,
+      at .loop .inv .2 ∙ ap (λ (n : ℕ). sum n
+          (λ i. ones (getD (a .a .now) i 0) + (ones (getD (a .j .now) i 0) + ones (getD (a .f .now) i 0)))) all,
       omega arith,
     )
 

@@ -1,4 +1,5 @@
--- `local_sets::alike_rows` meets its contract. The loop's invariant: the rows below b are right. The measure is what is left of the 64.
+-- `local_sets::alike_rows` meets its contract. The loop's invariant: the rows below b are right. The measure is what
+-- is left of the 64.
 use mathlib.Core.Path.{_≡_, refl, ap₂, _∙_}
 use mathlib.Core.Bool.{_&&_}
 use Prim.Native.Nat.{_-_, _≤_}
@@ -39,7 +40,8 @@ loop-again c =
     let v = getD (at .before .before .before .args .variable .now) (at .loop .b) 0 in (
       omega arith,
       told-more _ _ _ _ _ _ (omega arith) (at .loop .inv .1)
-          (λ j. c .only .ensures j ∙ ap₂ _&&_ (has .has .ensures) (groups .at v (has .before .shared-slice-known2 .given (at .loop .b) .fits) j)),
+          (λ j. c .only .ensures j ∙ ap₂ _&&_ (has .has .ensures) (groups .at v
+          (has .before .shared-slice-known2 .given (at .loop .b) .fits) j)),
     )
 
 returns : tie.Need-returns Inv-loop μ-loop

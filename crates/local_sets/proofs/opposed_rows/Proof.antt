@@ -1,4 +1,5 @@
--- `local_sets::opposed_rows` meets its contract. The loop's invariant: the rows below b are right. The measure is what is left of the 64.
+-- `local_sets::opposed_rows` meets its contract. The loop's invariant: the rows below b are right. The measure is
+-- what is left of the 64.
 use mathlib.Core.Path.{refl}
 use Prim.Native.Nat.{_-_, _≤_}
 use native.Mathlib.Omega.{arith}
@@ -28,7 +29,8 @@ loop-again : tie.Need-loop-again Inv-loop μ-loop
 loop-again c =
     let at = c .before .before .before .before .before in
     let a = at .before .before .before .before .args in
-    let value : SFits w32 (getD (a .constant .now) (at .loop .b) (pos 0)) = record { sfits = c .before .before .before .value .given } in (
+    let value : SFits w32 (getD (a .constant .now) (at .loop .b)
+    (pos 0)) = record { sfits = c .before .before .before .value .given } in (
       omega arith,
       told-more _ _ _ _ _ _ (omega arith) (at .loop .inv .1) (rw (toZ-ofZ value) at (c .opposed .ensures)),
     )

@@ -12,4 +12,5 @@ last : tie.Need-returns-7
 last c = above-five (λ n. n ≡ opposite n) (λ m. refl) (c .before .args .relation) (omega arith)
 
 pub opposite-spec : {M : Type 1} → statement M
-opposite-spec = tie.close (tie.spec (λ c. search needs) (λ c. search needs) (λ c. search needs) (λ c. search needs) (λ c. search needs) (λ c. search needs) last)
+opposite-spec = tie.close (tie.spec (λ c. search needs) (λ c. search needs) (λ c. search needs) (λ c. search needs)
+    (λ c. search needs) (λ c. search needs) last)

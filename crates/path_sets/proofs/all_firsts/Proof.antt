@@ -1,4 +1,5 @@
--- `path_sets::all_firsts` meets its contract. The loop's invariant: the rows below s are right. The measure is what is left of the 64.
+-- `path_sets::all_firsts` meets its contract. The loop's invariant: the rows below s are right. The measure is what
+-- is left of the 64.
 use mathlib.Core.Path.{refl, ap, _∙_}
 use mathlib.Core.Bool.{Bool, _||_}
 use Prim.Native.Nat.{_-_, _≤_}
@@ -23,8 +24,12 @@ loop-holds c = (omega arith, told-none _ _ _ _ refl)
 loop-again : tie.Need-loop-again Inv-loop μ-loop
 loop-again c =
     let at = c .before .before .before .before .before .before in
-    let assigned = at .before .before .before .before .args .assigned .now in
-    (omega arith, told-more _ _ _ _ _ _ (omega arith) (at .loop .inv .1) (λ k. c .either2 .ensures k ∙ ap (λ (b : Bool). bit (getD assigned (at .loop .s) 0) k || b) (c .before .either .ensures k)))
+    let assigned = at .before .before .before .before .args .assigned .now in (
+      omega arith,
+      told-more _ _ _ _ _ _ (omega arith) (at .loop .inv .1)
+          (λ k. c .either2 .ensures k ∙ ap (λ (b : Bool). bit (getD assigned (at .loop .s) 0) k || b)
+          (c .before .either .ensures k)),
+    )
 
 returns : tie.Need-returns Inv-loop μ-loop
 returns c = told-end _ _ _ _ _ (c .loop-test .left) (c .before .loop .inv .1)

@@ -1,4 +1,5 @@
--- `path_sets::firsts_of` meets its contract. The loop's invariant: the rows below s are right. The measure is what is left of the 64.
+-- `path_sets::firsts_of` meets its contract. The loop's invariant: the rows below s are right. The measure is what is
+-- left of the 64.
 use mathlib.Core.Path.{refl, ap, _∙_}
 use mathlib.Core.Bool.{Bool, _&&_, and-false}
 use Prim.Native.Nat.{ℕ, _-_, _≤_}
@@ -27,7 +28,8 @@ loop-holds : tie.Need-loop-holds Inv-loop μ-loop
 loop-holds c = (omega arith, told-none _ _ _ _ refl, told-none _ _ _ _ refl, told-none _ _ _ _ refl)
 
 reach-if-requires : tie.Need-reach-if-requires Inv-loop μ-loop
-reach-if-requires c κs = let p = c .before .before .before .before .before .before .before .before .before .pre in (p .0, (p .1 .0, omega arith))
+reach-if-requires c κs = let p = c .before .before .before .before .before .before .before .before .before .pre in
+    (p .0, (p .1 .0, omega arith))
 
 loop-again : tie.Need-loop-again Inv-loop μ-loop
 loop-again c =
@@ -41,14 +43,23 @@ loop-again c =
     let jumping = getD (a .jumping .now) (at .loop .s) 0 in
     let falling = getD (a .falling .now) (at .loop .s) 0 in (
       omega arith,
-      told-more _ _ _ _ _ _ (omega arith) (at .loop .inv .1) (record { on = λ e. reach (said ∙ e) .assigned; off = λ e j. ap (λ (r : Reach). bit (r .assigned) j) (none (said ∙ e)) ∙ bit-none j }),
+      told-more _ _ _ _ _ _ (omega arith) (at .loop .inv .1)
+          (record {
+            on = λ e. reach (said ∙ e) .assigned;
+            off = λ e j. ap (λ (r : Reach). bit (r .assigned) j)
+                (none (said ∙ e)) ∙ bit-none j;
+          }),
       told-more _ _ _ _ _ _ (omega arith) (at .loop .inv .2) (record {
-        on = λ e P w j. c .before .before .both .ensures j ∙ ap (λ (b : Bool). bit jumping j && b) (reach (said ∙ e) .jumps P w j);
-        off = λ e j. c .before .before .both .ensures j ∙ ap (λ (r : Reach). bit jumping j && bit (r .jump) j) (none (said ∙ e)) ∙ ap (λ (b : Bool). bit jumping j && b) (bit-none j) ∙ and-false (bit jumping j);
+        on = λ e P w j. c .before .before .both .ensures j
+            ∙ ap (λ (b : Bool). bit jumping j && b) (reach (said ∙ e) .jumps P w j);
+        off = λ e j. c .before .before .both .ensures j
+            ∙ ap (λ (r : Reach). bit jumping j && bit (r .jump) j) (none (said ∙ e))
+            ∙ ap (λ (b : Bool). bit jumping j && b) (bit-none j) ∙ and-false (bit jumping j);
       }),
       told-more _ _ _ _ _ _ (omega arith) (at .loop .inv .3) (record {
         on = λ e P w j. c .both2 .ensures j ∙ ap (λ (b : Bool). bit falling j && b) (reach (said ∙ e) .falls P w j);
-        off = λ e j. c .both2 .ensures j ∙ ap (λ (r : Reach). bit falling j && bit (r .fall) j) (none (said ∙ e)) ∙ ap (λ (b : Bool). bit falling j && b) (bit-none j) ∙ and-false (bit falling j);
+        off = λ e j. c .both2 .ensures j ∙ ap (λ (r : Reach). bit falling j && bit (r .fall) j) (none (said ∙ e))
+            ∙ ap (λ (b : Bool). bit falling j && b) (bit-none j) ∙ and-false (bit falling j);
       }),
     )
 

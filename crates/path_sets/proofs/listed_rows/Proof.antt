@@ -1,5 +1,5 @@
--- `path_sets::listed_rows` meets its contract. The loop's invariant: the rows below b are right, and the word has those with a first below b. The measure is
--- what is left of the 64.
+-- `path_sets::listed_rows` meets its contract. The loop's invariant: the rows below b are right, and the word has
+-- those with a first below b. The measure is what is left of the 64.
 use mathlib.Core.Path.{_≡_, refl, sym, ap, _∙_}
 use mathlib.Core.Bool.{Bool, _||_}
 use Prim.Native.Nat.{ℕ, _-_, _≤_}
@@ -28,7 +28,9 @@ loop-again c =
     let lowest = at .before .lowest-firsts .ensures in (
       omega arith,
       told-more _ _ _ _ _ _ (omega arith) (at .loop .inv .1) (at .loop .inv .2),
-      λ j. c .either .ensures j ∙ ap (λ (t : Bool). t || bit (getD (at .before .lowest-firsts .result) (at .loop .b) 0) j) (at .loop .inv .2 j) ∙ sym (lowest .at (at .loop .b) (omega arith) j),
+      λ j. c .either .ensures j ∙ ap (λ (t : Bool). t || bit
+          (getD (at .before .lowest-firsts .result) (at .loop .b) 0) j) (at .loop .inv .2 j)
+          ∙ sym (lowest .at (at .loop .b) (omega arith) j),
     )
 
 returns : tie.Need-returns Inv-loop μ-loop

@@ -1,4 +1,5 @@
--- `path_sets::lowest_firsts` meets its contract. The loop's invariant: the edges below s are sorted. The measure is what is left of the 64.
+-- `path_sets::lowest_firsts` meets its contract. The loop's invariant: the edges below s are sorted. The measure is
+-- what is left of the 64.
 use mathlib.Core.Path.{refl, _∙_}
 use mathlib.Core.Bool.{not}
 use Prim.Native.Nat.{_-_, _≤_}
@@ -14,7 +15,8 @@ use Rattle.path_sets.proofs.lowest_firsts.Statement.{statement}
 use Rattle.path_sets.proofs.lowest_firsts.Tie as tie
 
 abbrev Inv-loop : tie.InvT-loop
-Inv-loop firsts r₀ s₀ r s = (s ≤ 64) × Sorted 64 (λ j. trailingZeros 64 (getD firsts j 0)) (λ j. not (eqb (getD firsts j 0) 0)) s r
+Inv-loop firsts r₀ s₀ r s = (s ≤ 64)
+    × Sorted 64 (λ j. trailingZeros 64 (getD firsts j 0)) (λ j. not (eqb (getD firsts j 0) 0)) s r
 
 abbrev μ-loop : tie.MeasureT-loop
 μ-loop firsts r₀ s₀ r s = 64 - s
@@ -40,14 +42,16 @@ loop-again c =
     let at = low .before .before .before in
     let firsts = at .before .before .args .firsts .now in (
       omega arith,
-      sorted-more 64 (λ j. trailingZeros 64 (getD firsts j 0)) (λ j. not (eqb (getD firsts j 0) 0)) (at .loop .s) _ _ _ _ (at .loop .inv .1)
+      sorted-more 64 (λ j. trailingZeros 64 (getD firsts j 0)) (λ j. not (eqb (getD firsts j 0) 0))
+          (at .loop .s) _ _ _ _ (at .loop .inv .1)
           (λ t. low .lowest .ensures .1 ∙ least-some _ (test-true t)) (low .lowest .ensures .0) refl (c .put .ensures),
     )
 
 returns : tie.Need-returns Inv-loop μ-loop
 returns c =
     let start = c .before .before .before in
-    lowest-firsts-end (start .args .firsts .now) _ _ (start .pre) (λ j. c .before .before .shared-slice-known .given j .fits) (c .loop-test .left) (c .before .loop .inv .1)
+    lowest-firsts-end (start .args .firsts .now) _ _ (start .pre)
+    (λ j. c .before .before .shared-slice-known .given j .fits) (c .loop-test .left) (c .before .loop .inv .1)
 
 pub lowest-firsts-spec : {M : Type 1} → statement M
 lowest-firsts-spec =

@@ -35,9 +35,13 @@ loop-again c =
     let b = at .loop .b - 1 in
     let down : at .loop .b ≡ b + 1 = omega arith in (
       omega arith,
-      reaching-more (a .jump .now) (a .fall .now) (a .touched .now) (a .denied .now) (a .s) (p .0) (p .1 .1) b _ _ _ _ _ _ _ _ _ _ _ _ (omega arith)
-          (subst (λ (i : ℕ). Reaching (a .jump .now) (a .fall .now) (a .touched .now) (a .denied .now) (a .s) i (at .loop .clean) (at .loop .by-jump) (at .loop .by-fall) (at .loop .assigned)) down (at .loop .inv .1))
-          (jump .has .ensures) (fall .has2 .ensures) (touched .has3 .ensures) (denied .has4 .ensures) (c .put4 .ensures) (c .before .before .before .put .ensures) (c .before .before .put2 .ensures) (c .before .put3 .ensures),
+      reaching-more (a .jump .now) (a .fall .now) (a .touched .now) (a .denied .now) (a .s) (p .0)
+          (p .1 .1) b _ _ _ _ _ _ _ _ _ _ _ _ (omega arith)
+          (subst (λ (i : ℕ). Reaching (a .jump .now) (a .fall .now) (a .touched .now) (a .denied .now) (a .s) i
+          (at .loop .clean) (at .loop .by-jump) (at .loop .by-fall) (at .loop .assigned)) down (at .loop .inv .1))
+          (jump .has .ensures) (fall .has2 .ensures) (touched .has3 .ensures) (denied .has4 .ensures)
+          (c .put4 .ensures) (c .before .before .before .put .ensures) (c .before .before .put2 .ensures)
+          (c .before .put3 .ensures),
     )
 
 returns : tie.Need-returns Inv-loop μ-loop
@@ -46,7 +50,8 @@ returns c =
     let a = at .before .before .before .before .before .args in
     let none : at .loop .b ≡ 0 = omega arith in
     reaching-end (a .jump .now) (a .fall .now) (a .touched .now) (a .denied .now) (a .s) _ _ _ _
-    (subst (λ (i : ℕ). Reaching (a .jump .now) (a .fall .now) (a .touched .now) (a .denied .now) (a .s) i (at .loop .clean) (at .loop .by-jump) (at .loop .by-fall) (at .loop .assigned)) none (at .loop .inv .1))
+    (subst (λ (i : ℕ). Reaching (a .jump .now) (a .fall .now) (a .touched .now) (a .denied .now) (a .s) i
+    (at .loop .clean) (at .loop .by-jump) (at .loop .by-fall) (at .loop .assigned)) none (at .loop .inv .1))
 
 pub reach-of-spec : {M : Type 1} → statement M
 reach-of-spec =

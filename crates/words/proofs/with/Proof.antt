@@ -10,7 +10,8 @@ use Rattle.words.proofs.with.Tie as tie
 
 returns : tie.Need-returns
 returns c j =
-    ap (λ (z : ℕ). bit (bitOr (c .args .x) z) j) (shl-one 64 (c .args .k) (c .pre)) ∙ bit-with (c .args .x) (c .args .k) j
+    ap (λ (z : ℕ). bit (bitOr (c .args .x) z) j) (shl-one 64 (c .args .k) (c .pre))
+    ∙ bit-with (c .args .x) (c .args .k) j
 
 pub with-spec : {M : Type 1} → statement M
 with-spec =
