@@ -43,6 +43,10 @@ Judged s verdict = (verdict ≡ judge s) × (said verdict ≡ said (judge s))
 abbrev pub reading : List ℕ → Reading
 reading s = record { verdict = judge s; body = when (accepted (judge s)) (bodyOf s) zeroBody }
 
+-- What reading owes: the case with its body, and the case's numbers
+abbrev pub ReadAs : List ℕ → Reading → Type 0
+ReadAs s answer = (answer ≡ reading s) × (said (answer .verdict) ≡ said (judge s))
+
 -- ---- the writer
 
 -- Its answer in document 01's numbers: on success the place is 0, and beside it stands how many bytes were written

@@ -1,5 +1,6 @@
--- The answers of the conflict list. Trusted: for each case of the answer document 01's number and place, what is answered for any bytes and any room, and what the lent
--- bytes hold afterwards. A refusal's number is as tabled; 0 stands for none. Rests on form's Form, Answer and Conflict.
+-- The answers of the conflict list. Trusted: for each case of the answer document 01's number and place, what is
+-- answered for any bytes and any room, and what the lent bytes hold afterwards. A refusal's number is as tabled; 0
+-- stands for none. Rests on form's Form, Answer and Conflict.
 use mathlib.Core.Path.{_≡_}
 use mathlib.Core.List.{List, _++_}
 use Prim.Native.Nat.{ℕ, _≤_, _<_}
@@ -39,22 +40,27 @@ placeOf answer = said answer .place
 abbrev pub bytesOf : Listed → ℕ
 bytesOf answer = said answer .bytes
 
--- What is owed for any bytes, in document 01's numbers, and what the lent bytes hold after it: the reader's refusal, or 42 with the bytes needed, and all that stood there;
--- else the list, and then what stood there.
+-- What is owed for any bytes, in document 01's numbers, and what the lent bytes hold after it: the reader's refusal,
+-- or 42 with the bytes needed, and all that stood there; else the list, and then what stood there.
 pub data Owed (form before : List ℕ) (answer : Values) (after : List ℕ) : Type 0 where
-  no-form : (number place : ℕ) → judge form ≡ NoForm number place → answer ≡ refusal number place → after ≡ before → Owed form before answer after
+  no-form : (number place : ℕ) → judge form ≡ NoForm number place → answer ≡ refusal number place → after ≡ before
+      → Owed form before answer after
   no-room :
-      judge form ≡ Accepted → length before < length (conflictBytes (bodyOf form)) → answer ≡ refusal 42 (length (conflictBytes (bodyOf form))) → after ≡ before
+      judge form ≡ Accepted → length before < length (conflictBytes (bodyOf form))
+      → answer ≡ refusal 42 (length (conflictBytes (bodyOf form))) → after ≡ before
       → Owed form before answer after
   listed :
-      judge form ≡ Accepted → length (conflictBytes (bodyOf form)) ≤ length before → answer ≡ written (length (conflictBytes (bodyOf form)))
-      → after ≡ conflictBytes (bodyOf form) ++ drop (length (conflictBytes (bodyOf form))) before → Owed form before answer after
+      judge form ≡ Accepted → length (conflictBytes (bodyOf form)) ≤ length before
+      → answer ≡ written (length (conflictBytes (bodyOf form)))
+      → after ≡ conflictBytes (bodyOf form) ++ drop (length (conflictBytes (bodyOf form))) before
+      → Owed form before answer after
 
 -- ---- the same by the answer's cases
 
 -- 42 with the bytes needed, else how many bytes are written
 abbrev pub listedIn : Body → ℕ → Listed
-listedIn body room = when (ltb room (length (conflictBytes body))) (Refused 42 (length (conflictBytes body))) (Bytes (length (conflictBytes body)))
+listedIn body room = when (ltb room (length (conflictBytes body))) (Refused 42 (length (conflictBytes body)))
+    (Bytes (length (conflictBytes body)))
 
 -- the reader's refusals come first
 abbrev pub asJudged : Verdict → Listed → Listed
@@ -71,4 +77,5 @@ heldAfter (Refused number place) list out = out
 
 -- the call's promise: the case itself, and the same in numbers
 abbrev pub Answered : (form before : List ℕ) → Listed → (after : List ℕ) → Type 0
-Answered form before r after = (r ≡ listing form (length before)) × ((after ≡ heldAfter r (conflictBytes (bodyOf form)) before) × Owed form before (said r) after)
+Answered form before r after = (r ≡ listing form (length before))
+    × ((after ≡ heldAfter r (conflictBytes (bodyOf form)) before) × Owed form before (said r) after)

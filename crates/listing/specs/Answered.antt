@@ -1,4 +1,5 @@
--- From the reader's answer to the list's: a refusal as it is, and of an accepted form its body. Rests on Answer and roundtrip.Read.
+-- From the reader's answer to the list's: a refusal as it is, and of an accepted form its body. Rests on Answer and
+-- roundtrip.Read.
 use mathlib.Core.Path.{_≡_, refl, sym, ap, subst, _∙_}
 use mathlib.Core.Bool.{Bool, true, false}
 use mathlib.Core.List.{List}
@@ -20,9 +21,16 @@ use Rattle.listing.specs.Answer.{said, Owed, asJudged, listedIn, listing
 use Rattle.listing.specs.Answer.Owed.{no-form, no-room, listed}
 
 -- the same in numbers
-pub answered : (form before : List ℕ) (r : Listed) (after : List ℕ) → r ≡ listing form (length before) → after ≡ heldAfter r (conflictBytes (bodyOf form)) before → Answered form before r after
-answered form before r after e h =
-    (e, (h, subst (λ (a : Listed). after ≡ heldAfter a list before → Owed form before (said a) after) (sym e) (by (judge form) refl (ltb (length before) (length list)) refl) h))
+pub answered : (form before : List ℕ) (r : Listed) (after : List ℕ) → r ≡ listing form (length before)
+    → after ≡ heldAfter r (conflictBytes (bodyOf form)) before → Answered form before r after
+answered form before r after e h = (
+  e,
+  (
+    h,
+    subst (λ (a : Listed). after ≡ heldAfter a list before → Owed form before (said a) after) (sym e)
+        (by (judge form) refl (ltb (length before) (length list)) refl) h,
+  ),
+)
   where
     list : List ℕ
     list = conflictBytes (bodyOf form)
@@ -35,14 +43,18 @@ answered form before r after e h =
     by Accepted j false s held = listed j (ltb-false (length before) (length list) s) refl held
 
 module _ (s : List ℕ) (r : Reading) (is : r ≡ reading s) where
-  pub listed-as : r .verdict ≡ Accepted → (a : Listed) (out after : List ℕ) → a ≡ listedIn (r .body) (length out) → after ≡ heldAfter a (conflictBytes (r .body)) out → Answered s out a after
+  pub listed-as : r .verdict ≡ Accepted → (a : Listed) (out after : List ℕ) → a ≡ listedIn (r .body) (length out)
+      → after ≡ heldAfter a (conflictBytes (r .body)) out → Answered s out a after
   listed-as ok a out after p q =
       answered s out a after
-      (p ∙ ap (λ (b : Body). listedIn b (length out)) (read-body s r is ok) ∙ ap (λ (v : Verdict). asJudged v (listedIn (bodyOf s) (length out))) (sym (read-accepted s r is ok)))
+      (p ∙ ap (λ (b : Body). listedIn b (length out)) (read-body s r is ok)
+      ∙ ap (λ (v : Verdict). asJudged v (listedIn (bodyOf s) (length out))) (sym (read-accepted s r is ok)))
       (q ∙ ap (λ (b : Body). heldAfter a (conflictBytes b) out) (read-body s r is ok))
 
-  pub refused-as : (number place : ℕ) (out : List ℕ) → r .verdict ≡ NoForm number place → Answered s out (Refused number place) out
+  pub refused-as : (number place : ℕ) (out : List ℕ) → r .verdict ≡ NoForm number place
+      → Answered s out (Refused number place) out
   refused-as number place out e = answered s out (Refused number place) out (is-refused (length out)) refl
     where
       is-refused : (room : ℕ) → Refused number place ≡ listing s room
-      is-refused room = ap (λ (v : Verdict). asJudged v (listedIn (bodyOf s) room)) (sym (read-as s r is (NoForm number place) e))
+      is-refused room = ap (λ (v : Verdict). asJudged v (listedIn (bodyOf s) room))
+          (sym (read-as s r is (NoForm number place) e))

@@ -1,5 +1,5 @@
-// The conflict list of document 01, read off what the crate path_sets finds of a body: its number of entries, and its bytes for any form. The meaning is in
-// specs/Answer.antt and in form's Conflict.
+// The conflict list of document 01, read off what the crate path_sets finds of a body: its number of entries, and its
+// bytes for any form. The meaning is in specs/Answer.antt and in form's Conflict.
 ghost use mathlib.Core.Path.{_≡_};
 ghost use Prim.Native.Nat.{_+_, _≤_, _<_};
 ghost use lib.ListN.{length};

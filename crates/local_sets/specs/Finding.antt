@@ -1,5 +1,5 @@
--- From what the functions' words and lists say of one another to what they say of the body: the sets are those of the definition. Rests on Parts, sets' Local and
--- lower_laws' Joined.
+-- From what the functions' words and lists say of one another to what they say of the body: the sets are those of the
+-- definition. Rests on Parts, sets' Local and lower_laws' Joined.
 use mathlib.Core.Path.{_≡_, refl, sym, ap, ap₂, _∙_}
 use mathlib.Core.Bool.{Bool, true, false, not, _&&_, and-false}
 use mathlib.Core.List.{List}
@@ -15,7 +15,8 @@ use Rattle.words.specs.Tabled.{tabled, rows}
 use Rattle.words.specs.Filled.{Told, same-bits, set-bits, told-as, told-tabled, told-rows}
 use Rattle.form.specs.declared.Body.{Body}
 use Rattle.form.specs.declared.Block.{Block}
-use Rattle.form.specs.Conflict.{block, effectsBelow, effectsOf, touches, lastOn, refuses, exits, wayTo, isTest, condition, contradict, opposes, denies}
+use Rattle.form.specs.Conflict.{block, effectsBelow, effectsOf, touches, lastOn, refuses, exits, wayTo, isTest}
+use Rattle.form.specs.Conflict.{condition, contradict, opposes, denies}
 use Rattle.lower_laws.specs.PairTest.{shares, contradict-is}
 use Rattle.lower_laws.specs.Endings.{ways-lead}
 use Rattle.lower_laws.specs.Joined.{past-64, no-test, denies-test, opposes-test}
@@ -24,12 +25,14 @@ use Rattle.sets.specs.Local.{edgeRows, localOf}
 use Rattle.local_sets.specs.declared.Tests.{Tests}
 use Rattle.local_sets.specs.declared.Columns.{Columns}
 use Rattle.local_sets.specs.declared.EffectRows.{EffectRows}
-use Rattle.local_sets.specs.Parts.{blockIn, ColumnsOf, Sized, TouchedBy, conditionAt, DeniedBy, AlikeAt, OpposedAt, passed, ownEffects, EffectRowsOf, OpposedOf}
+use Rattle.local_sets.specs.Parts.{blockIn, ColumnsOf, Sized, TouchedBy, conditionAt, DeniedBy, AlikeAt}
+use Rattle.local_sets.specs.Parts.{OpposedAt, passed, ownEffects, EffectRowsOf, OpposedOf}
 
 pub columns-sized : {block : ℕ → Block} (c : Columns) → ColumnsOf block c → Sized (c .tests)
 columns-sized c s = record { variables = s .variables .size; jumps = s .jumps .size; falls = s .falls .size; constants = s .constants .size }
 
-module _ (body : Body) (size : length (body .blocks) ≡ 64) (c : Columns) (shown : ColumnsOf (blockIn (body .count) (body .blocks)) c) where
+module _ (body : Body) (size : length (body .blocks) ≡ 64) (c : Columns)
+    (shown : ColumnsOf (blockIn (body .count) (body .blocks)) c) where
   abbrev t : Tests
   t = c .tests
 
@@ -73,15 +76,22 @@ module _ (body : Body) (size : length (body .blocks) ≡ 64) (c : Columns) (show
   unfolding effectsOf block
   own-is b h = ap₂ (λ n m. take n (drop m (body .effects))) (shown .owned .at b h) (passed-is b (omega arith))
 
-  touched-is : (l : List ℕ) → Told 0 (λ b x. TouchedBy t (ownEffects (c .owned) (body .effects) b) x) 64 64 l → l ≡ rows (λ b k. isTest body k && touches body b (block body k .variable))
+  touched-is : (l : List ℕ) → Told 0 (λ b x. TouchedBy t (ownEffects (c .owned) (body .effects) b) x) 64 64 l
+      → l ≡ rows (λ b k. isTest body k && touches body b (block body k .variable))
   unfolding touches
-  touched-is l told = told-rows (λ b k. isTest body k && touches body b (block body k .variable)) (λ b k h. rw (off k h)) l (told-as 0 _ 64 _ l told (λ b x h p k.
-      p k ∙ on-test k _ _ (λ e. λ i. anyOf (λ a. eqb (a .variable) (variable-is k (test-inside k e) i)) (own-is b h i))))
+  touched-is l told = told-rows (λ b k. isTest body k && touches body b (block body k .variable))
+      (λ b k h. rw (off k h)) l (told-as 0 _ 64 _ l told (λ b x h p k.
+      p k ∙ on-test k _ _ (λ e. λ i. anyOf (λ a. eqb (a .variable) (variable-is k (test-inside k e) i))
+      (own-is b h i))))
 
-  denied-is : (relation : List ℕ) (way : ℕ) → Shows relation way → (l : List ℕ) → Told 0 (λ b x. DeniedBy t relation (ownEffects (c .owned) (body .effects) b) x) 64 64 l → l ≡ rows (λ b k. denies body b (k, way))
+  denied-is : (relation : List ℕ) (way : ℕ) → Shows relation way → (l : List ℕ)
+      → Told 0 (λ b x. DeniedBy t relation (ownEffects (c .owned) (body .effects) b) x) 64 64 l
+      → l ≡ rows (λ b k. denies body b (k, way))
   unfolding denies
-  denied-is relation way shows l told = told-rows (λ b k. denies body b (k, way)) (λ b k h. denies-test body b (k, way) (off k h)) l (told-as 0 _ 64 _ l told (λ b x h p k.
-      p k ∙ on-test k _ _ (λ e. λ i. refuses (lastOn (shows k (test-inside k e) i .variable) (own-is b h i)) (shows k (test-inside k e) i))))
+  denied-is relation way shows l told = told-rows (λ b k. denies body b (k, way))
+      (λ b k h. denies-test body b (k, way) (off k h)) l (told-as 0 _ 64 _ l told (λ b x h p k.
+      p k ∙ on-test k _ _ (λ e. λ i. refuses (lastOn (shows k (test-inside k e) i .variable) (own-is b h i))
+      (shows k (test-inside k e) i))))
 
   -- ---- rows of opposition
   alike-two : (a b e f n : Bool) → e ≡ f → ((a && (b && e)) && n) ≡ ((a && b) && (f && n))
@@ -89,49 +99,70 @@ module _ (body : Body) (size : length (body .blocks) ≡ 64) (c : Columns) (show
   alike-two true false e f n q = refl
   alike-two false b e f n q = refl
 
-  both-tests : (b k : ℕ) (x y : Bool) → (isTest body b ≡ true → isTest body k ≡ true → x ≡ y) → ((isTest body b && isTest body k) && x) ≡ ((isTest body b && isTest body k) && y)
-  both-tests b k x y f = split (isTest body b) (λ e. split (isTest body k) (λ d. ap (λ z. (isTest body b && isTest body k) && z) (f e d)) (λ d. rw (d, and-false (isTest body b)))) (λ e. rw e)
+  both-tests : (b k : ℕ) (x y : Bool) → (isTest body b ≡ true → isTest body k ≡ true → x ≡ y)
+      → ((isTest body b && isTest body k) && x) ≡ ((isTest body b && isTest body k) && y)
+  both-tests b k x y f = split (isTest body b)
+      (λ e. split (isTest body k) (λ d. ap (λ z. (isTest body b && isTest body k) && z) (f e d))
+      (λ d. rw (d, and-false (isTest body b)))) (λ e. rw e)
 
-  opposed-is : (alike first second : List ℕ) (one two : ℕ) → Shows first one → Shows second two → Told 0 (AlikeAt (t .tests) (t .variable)) 64 64 alike
-      → (l : List ℕ) → Told 0 (OpposedAt alike first second (t .constant)) 64 64 l → l ≡ rows (λ b k. opposes body (b, one) (k, two))
+  opposed-is : (alike first second : List ℕ) (one two : ℕ) → Shows first one → Shows second two
+      → Told 0 (AlikeAt (t .tests) (t .variable)) 64 64 alike
+      → (l : List ℕ) → Told 0 (OpposedAt alike first second (t .constant)) 64 64 l
+      → l ≡ rows (λ b k. opposes body (b, one) (k, two))
   unfolding opposes
   opposed-is alike first second one two shows knows same l told =
-      told-rows (λ b k. opposes body (b, one) (k, two)) (λ b k h. opposes-test body (b, one) (k, two) (off k h)) l (told-as 0 _ 64 _ l told (λ b x h p k.
-      let no : Bool = not (shares (getD first b 0) (getD (t .constant) b (pos 0)) (getD second k 0) (getD (t .constant) k (pos 0))) in
+      told-rows (λ b k. opposes body (b, one) (k, two)) (λ b k h. opposes-test body (b, one) (k, two) (off k h)) l
+      (told-as 0 _ 64 _ l told (λ b x h p k.
+      let no : Bool = not (shares (getD first b 0) (getD (t .constant) b (pos 0)) (getD second k 0)
+      (getD (t .constant) k (pos 0))) in
       p k
       ∙ ap (λ z. z && no) (same .at b h k)
-      ∙ alike-two (bit (t .tests) b) (bit (t .tests) k) _ _ no (eqb-swap (getD (t .variable) k 0) (getD (t .variable) b 0))
+      ∙ alike-two (bit (t .tests) b) (bit (t .tests) k) _ _ no
+      (eqb-swap (getD (t .variable) k 0) (getD (t .variable) b 0))
       ∙ ap₂ (λ p q. (p && q) && (eqb (getD (t .variable) b 0) (getD (t .variable) k 0) && no)) (test-bit b) (test-bit k)
       ∙ both-tests b k _ _ (λ e d.
-      sym (contradict-is (conditionAt t first b) (conditionAt t second k)) ∙ ap₂ contradict (shows b (test-inside b e)) (knows k (test-inside k d)))))
+      sym (contradict-is (conditionAt t first b) (conditionAt t second k))
+      ∙ ap₂ contradict (shows b (test-inside b e)) (knows k (test-inside k d)))))
 
-  opposed-edges : (first : List ℕ) (way : ℕ) → Shows first way → (r : Edges) → OpposedOf t first r → r ≡ edgeRows (λ b e. opposes body (b, way) e)
+  opposed-edges : (first : List ℕ) (way : ℕ) → Shows first way → (r : Edges) → OpposedOf t first r
+      → r ≡ edgeRows (λ b e. opposes body (b, way) e)
   opposed-edges first way shows r o = λ i. record {
     jump = opposed-is (o .alike) first (t .jump) way 1 shows by-jump (o .alikes) (r .jump) (o .jumps) i;
     fall = opposed-is (o .alike) first (t .fall) way 2 shows by-fall (o .alikes) (r .fall) (o .falls) i;
   }
 
   -- ---- the rest
-  targets-are : c .targets ≡ record { jump = tabled 64 (λ b. wayTo 1 (exits body b)); fall = tabled 64 (λ b. wayTo 2 (exits body b)) }
+  targets-are : c .targets ≡ record {
+    jump = tabled 64 (λ b. wayTo 1 (exits body b));
+    fall = tabled 64
+        (λ b. wayTo 2 (exits body b));
+  }
   unfolding exits block
   targets-are = λ i. record {
-    jump = told-tabled (λ b. wayTo 1 (exits body b)) 64 64 (c .targets .jump) (told-as 64 _ 64 _ (c .targets .jump) (shown .to-jumps) (λ b x h p.
+    jump = told-tabled (λ b. wayTo 1 (exits body b)) 64 64 (c .targets .jump)
+        (told-as 64 _ 64 _ (c .targets .jump) (shown .to-jumps) (λ b x h p.
         p ∙ sym (ways-lead (block body b .ending) (block body b .jump) (block body b .fall) .0))) i;
-    fall = told-tabled (λ b. wayTo 2 (exits body b)) 64 64 (c .targets .fall) (told-as 64 _ 64 _ (c .targets .fall) (shown .to-falls) (λ b x h p.
+    fall = told-tabled (λ b. wayTo 2 (exits body b)) 64 64 (c .targets .fall)
+        (told-as 64 _ 64 _ (c .targets .fall) (shown .to-falls) (λ b x h p.
         p ∙ sym (ways-lead (block body b .ending) (block body b .jump) (block body b .fall) .1))) i;
   }
 
   tests-are : t .tests ≡ setOf 64 (isTest body)
   tests-are = same-bits (t .tests) (setOf 64 (isTest body)) (λ k. test-bit k ∙ sym (set-bits (isTest body) off k))
 
-  pub local-is : (e : EffectRows) → EffectRowsOf t (c .owned) (body .effects) e → (jumping falling : Edges) → OpposedOf t (t .jump) jumping → OpposedOf t (t .fall) falling
+  pub local-is : (e : EffectRows) → EffectRowsOf t (c .owned) (body .effects) e → (jumping falling : Edges)
+      → OpposedOf t (t .jump) jumping → OpposedOf t (t .fall) falling
       → record { tests = t .tests; targets = c .targets; touched = e .touched; denied = e .denied; jumping = jumping; falling = falling; variable = t .variable } ≡ localOf body
   unfolding localOf block
   local-is e rowed jumping falling one two = λ i. record {
     tests = tests-are i;
     targets = targets-are i;
     touched = touched-is (e .touched) (rowed .touched) i;
-    denied = record { jump = denied-is (t .jump) 1 by-jump (e .denied .jump) (rowed .jumps) i; fall = denied-is (t .fall) 2 by-fall (e .denied .fall) (rowed .falls) i };
+    denied = record {
+      jump = denied-is (t .jump) 1 by-jump (e .denied .jump) (rowed .jumps) i;
+      fall = denied-is
+          (t .fall) 2 by-fall (e .denied .fall) (rowed .falls) i;
+    };
     jumping = opposed-edges (t .jump) 1 by-jump jumping one i;
     falling = opposed-edges (t .fall) 2 by-fall falling two i;
     variable = told-tabled (λ b. block body b .variable) 0 64 (t .variable) (shown .variables) i;

@@ -1,4 +1,5 @@
--- What the private functions' contracts say of the words and lists that they pass on. Rests on form's Conflict and on words.Filled.
+-- What the private functions' contracts say of the words and lists that they pass on. Rests on form's Conflict and on
+-- words.Filled.
 use mathlib.Core.Path.{_≡_}
 use mathlib.Core.Bool.{not, _&&_}
 use mathlib.Core.List.{List}
@@ -35,7 +36,8 @@ jumpOf k = target (ltb 0 (k .ending) && ltb (k .ending) 4) (k .jump)
 abbrev pub fallOf : Block → ℕ
 fallOf k = target (ltb 1 (k .ending) && ltb (k .ending) 4) (k .fall)
 
--- the columns of blocks: which are tests, each block's variable, relation by jump, relation by fall and constant, where its ways lead, and its number of effects
+-- the columns of blocks: which are tests, each block's variable, relation by jump, relation by fall and constant,
+-- where its ways lead, and its number of effects
 pub record ColumnsOf (block : ℕ → Block) (c : Columns) : Type 0 where
   pub tests : (k : ℕ) → bit (c .tests .tests) k ≡ eqb (block k .ending) 3
   pub variables : Told 0 (λ k x. x ≡ block k .variable) 64 64 (c .tests .variable)
@@ -61,23 +63,33 @@ pub record OnVariable (tests : ℕ) (variable l : List ℕ) : Type 0 where
 
 -- ---- effects
 
--- of the tests, those that effects touch, and those whose edge by one way (its relations) the last effect on their variable denies
+-- of the tests, those that effects touch, and those whose edge by one way (its relations) the last effect on their
+-- variable denies
 abbrev pub TouchedBy : Tests → List Effect → ℕ → Type 0
-TouchedBy t effects x = (j : ℕ) → bit x j ≡ bit (t .tests) j && anyOf (λ a. eqb (a .variable) (getD (t .variable) j 0)) effects
+TouchedBy t effects x = (j : ℕ)
+    → bit x j ≡ bit (t .tests) j && anyOf (λ a. eqb (a .variable) (getD (t .variable) j 0)) effects
 
 abbrev pub conditionAt : Tests → (relation : List ℕ) → ℕ → Condition
-conditionAt t relation j = record { variable = getD (t .variable) j 0; relation = getD relation j 0; constant = getD (t .constant) j (pos 0) }
+conditionAt t relation j = record {
+  variable = getD (t .variable) j 0;
+  relation = getD relation j 0;
+  constant = getD
+      (t .constant) j (pos 0);
+}
 
 abbrev pub DeniedBy : Tests → (relation : List ℕ) → List Effect → ℕ → Type 0
-DeniedBy t relation effects x = (j : ℕ) → bit x j ≡ bit (t .tests) j && refuses (lastOn (getD (t .variable) j 0) effects) (conditionAt t relation j)
+DeniedBy t relation effects x = (j : ℕ)
+    → bit x j ≡ bit (t .tests) j && refuses (lastOn (getD (t .variable) j 0) effects) (conditionAt t relation j)
 
--- by itself an effect is on the tests of its variable, and denies, where it is a constant, the edges that the constant does not meet
+-- by itself an effect is on the tests of its variable, and denies, where it is a constant, the edges that the
+-- constant does not meet
 abbrev pub OnAt : Tests → Effect → ℕ → Type 0
 OnAt t a x = (j : ℕ) → bit x j ≡ bit (t .tests) j && eqb (getD (t .variable) j 0) (a .variable)
 
 abbrev pub MarkAt : Tests → (relation : List ℕ) → Effect → ℕ → Type 0
 MarkAt t relation a x =
-    (j : ℕ) → bit x j ≡ (eqb (a .how) 1 && (bit (t .tests) j && eqb (getD (t .variable) j 0) (a .variable))) && not (shares 0 (a .constant) (getD relation j 0) (getD (t .constant) j (pos 0)))
+    (j : ℕ) → bit x j ≡ (eqb (a .how) 1 && (bit (t .tests) j && eqb (getD (t .variable) j 0) (a .variable))) && not
+    (shares 0 (a .constant) (getD relation j 0) (getD (t .constant) j (pos 0)))
 
 -- the first n effects
 pub record MarksOf (n : ℕ) (t : Tests) (effects : List Effect) (on jump fall : List ℕ) : Type 0 where
@@ -95,11 +107,14 @@ pub record HitsOf (t : Tests) (effects : List Effect) (h : Hits) : Type 0 where
 abbrev pub MarksFrom : (groups jump fall : List ℕ) (constant : List ℤ) → List Effect → Marks → Type 0
 MarksFrom groups jump fall constant effects m =
     (tests : ℕ) (variable : List ℕ) → OnVariable tests variable groups
-    → MarksOf 256 (record { tests = tests; variable = variable; jump = jump; fall = fall; constant = constant }) effects (m .on) (m .jump) (m .fall)
+    → MarksOf 256
+    (record { tests = tests; variable = variable; jump = jump; fall = fall; constant = constant }) effects (m .on)
+    (m .jump) (m .fall)
 
 -- whatever tests and effects the marks are of
 abbrev pub HitsFrom : (on jump fall : List ℕ) → (from own : ℕ) → Hits → Type 0
-HitsFrom on jump fall from own h = (t : Tests) (effects : List Effect) → MarksOf 256 t effects on jump fall → HitsOf t (take own (drop from effects)) h
+HitsFrom on jump fall from own h = (t : Tests) (effects : List Effect) → MarksOf 256 t effects on jump fall
+    → HitsOf t (take own (drop from effects)) h
 
 -- how many effects the blocks below b have, and block b's own, where each block has so many
 unfoldable pub passed : (owned : List ℕ) → ℕ → ℕ
@@ -115,18 +130,21 @@ pub record EffectRowsOf (t : Tests) (owned : List ℕ) (effects : List Effect) (
   pub falls : Told 0 (λ b x. DeniedBy t (t .fall) (ownEffects owned effects b) x) 64 64 (r .denied .fall)
 
 abbrev pub RowsFrom : (owned on jump fall : List ℕ) → EffectRows → Type 0
-RowsFrom owned on jump fall r = (t : Tests) (effects : List Effect) → MarksOf 256 t effects on jump fall → EffectRowsOf t owned effects r
+RowsFrom owned on jump fall r = (t : Tests) (effects : List Effect) → MarksOf 256 t effects on jump fall
+    → EffectRowsOf t owned effects r
 
 -- ---- edges
 
 -- the tests on the variable of test b
 abbrev pub AlikeAt : (tests : ℕ) (variable : List ℕ) → ℕ → ℕ → Type 0
-AlikeAt tests variable b x = (j : ℕ) → bit x j ≡ bit tests b && (bit tests j && eqb (getD variable j 0) (getD variable b 0))
+AlikeAt tests variable b x = (j : ℕ)
+    → bit x j ≡ bit tests b && (bit tests j && eqb (getD variable j 0) (getD variable b 0))
 
 -- of those, the ones whose edge by the second way no whole number meets together with b's by the first
 abbrev pub OpposedAt : (alike first second : List ℕ) (constant : List ℤ) → ℕ → ℕ → Type 0
 OpposedAt alike first second constant b x =
-    (j : ℕ) → bit x j ≡ bit (getD alike b 0) j && not (shares (getD first b 0) (getD constant b (pos 0)) (getD second j 0) (getD constant j (pos 0)))
+    (j : ℕ) → bit x j ≡ bit (getD alike b 0) j && not
+    (shares (getD first b 0) (getD constant b (pos 0)) (getD second j 0) (getD constant j (pos 0)))
 
 -- by both ways of the second
 pub record OpposedOf (t : Tests) (first : List ℕ) (r : Edges) : Type 0 where

@@ -1,5 +1,5 @@
-// What a body's blocks, effects and edges say by themselves, as sets of edges in words: the part of its conflicts that looks at no path. The meaning is in sets'
-// Local and in form's Conflict.
+// What a body's blocks, effects and edges say by themselves, as sets of edges in words: the part of its conflicts
+// that looks at no path. The meaning is in sets' Local and in form's Conflict.
 ghost use mathlib.Core.Path.{_≡_};
 ghost use mathlib.Core.Bool.{_&&_, not};
 ghost use Prim.Native.Nat.{ℕ, _+_, _≤_};
@@ -14,7 +14,8 @@ ghost use Rattle.words.specs.Filled.{Told};
 ghost use Rattle.lower_laws.specs.PairTest.{shares};
 ghost use Rattle.lower_laws.specs.Effects.{Within};
 ghost use Rattle.lower_laws.specs.Endings.{target};
-ghost use Rattle.local_sets.specs.Parts.{blockIn, ColumnsOf, Sized, OnVariable, MarksFrom, HitsFrom, RowsFrom, EffectRowsOf, AlikeAt, OpposedAt, OpposedOf};
+ghost use Rattle.local_sets.specs.Parts.{blockIn, ColumnsOf, Sized, OnVariable, MarksFrom, HitsFrom, RowsFrom};
+ghost use Rattle.local_sets.specs.Parts.{EffectRowsOf, AlikeAt, OpposedAt, OpposedOf};
 ghost use Rattle.sets.specs.Local.{localOf};
 
 // The tests of a body: which blocks they are, and each block's variable, relation by jump and by fall, and constant.
@@ -33,7 +34,8 @@ struct Columns {
     owned: [usize; 64],
 }
 
-// For each effect of a body the tests on its variable, and of those the ones whose edge by jump, and by fall, it denies.
+// For each effect of a body the tests on its variable, and of those the ones whose edge by jump, and by fall, it
+// denies.
 struct Marks {
     on: [u64; 256],
     jump: [u64; 256],
@@ -166,7 +168,8 @@ fn opposed(set: u64, relations: &[u8], constants: &[i32], relation: u8, constant
     r
 }
 
-// What each effect by itself does to the tests: `groups` has the tests on each variable, then come the tests' relations by jump and by fall, and their constants.
+// What each effect by itself does to the tests: `groups` has the tests on each variable, then come the tests'
+// relations by jump and by fall, and their constants.
 fn marks_of(
     effects: [form::Effect; 256],
     groups: &[u64],
@@ -199,7 +202,8 @@ fn marks_of(
     }
 }
 
-// The effects of a block, `own` of them from place `from` on: which tests they touch, and which edges the last on their variable denies.
+// The effects of a block, `own` of them from place `from` on: which tests they touch, and which edges the last on
+// their variable denies.
 fn hits_of(on: &[u64], jump: &[u64], fall: &[u64], from: usize, own: usize) -> Hits
     requires { ⌜ ((length (now on) ≡ 256) × ((length (now jump) ≡ 256) × (length (now fall) ≡ 256))) × (from + own ≤ 256) ⌝ }
     ensures { λ r. ⌜ HitsFrom (now (on .entry)) (now (jump .entry)) (now (fall .entry)) from own r ⌝ }
@@ -291,7 +295,8 @@ fn alike_rows(tests: u64, variable: &[u8]) -> [u64; 64]
     r
 }
 
-// Of those, the ones whose relation among the second no whole number meets together with the test's own among the first.
+// Of those, the ones whose relation among the second no whole number meets together with the test's own among the
+// first.
 fn opposed_rows(alike: &[u64], first: &[u8], second: &[u8], constant: &[i32]) -> [u64; 64]
     requires { ⌜ (length (now alike) ≡ 64) × ((length (now first) ≡ 64) × ((length (now second) ≡ 64) × (length (now constant) ≡ 64))) ⌝ }
     ensures { λ r. ⌜ Told 0 (OpposedAt (now (alike .entry)) (now (first .entry)) (now (second .entry)) (now (constant .entry))) 64 64 r ⌝ }

@@ -1,5 +1,6 @@
-// What paths join of a body: from what its blocks say by themselves (sets' Local) the sets of edges that the walks need, and for each edge the firsts that the conflict
-// list pairs with it. The meaning is in sets' Found and in form's Conflict.
+// What paths join of a body: from what its blocks say by themselves (sets' Local) the sets of edges that the walks
+// need, and for each edge the firsts that the conflict list pairs with it. The meaning is in sets' Found and in
+// form's Conflict.
 ghost use mathlib.Core.Path.{_≡_};
 ghost use mathlib.Core.Bool.{true, false};
 ghost use Prim.Native.Nat.{_<_};
@@ -7,17 +8,19 @@ ghost use lib.ListN.{length};
 ghost use Rattle.words.specs.Filled.{Told};
 ghost use Rattle.sets.specs.Local.{EdgesSized, Worded};
 ghost use Rattle.sets.specs.Found.{SetsFrom, FoundFrom};
-ghost use Rattle.path_sets.specs.Parts.{EitherAt, ListedAt, LowestFirsts, Ways, noReach, ReachOf, FirstsOf, ListedOf};
+ghost use Rattle.path_sets.specs.Parts.{EitherAt, ListedAt, LowestFirsts, Ways, noReach, ReachOf, FirstsOf};
+ghost use Rattle.path_sets.specs.Parts.{ListedOf};
 
-// The blocks from which a jump, and those from which a fall, leads to a clean path to a test; and those whose effects deny the test's edge by one way and
-// from which such a path leads, or which are its own.
+// The blocks from which a jump, and those from which a fall, leads to a clean path to a test; and those whose effects
+// deny the test's edge by one way and from which such a path leads, or which are its own.
 struct Reach {
     jump: u64,
     fall: u64,
     assigned: u64,
 }
 
-// From which blocks a jump or a fall leads to s by a path that does not touch test s, and which assign against its edge: the blocks from s down.
+// From which blocks a jump or a fall leads to s by a path that does not touch test s, and which assign against its
+// edge: the blocks from s down.
 fn reach_of(jump: &[usize], fall: &[usize], touched: &[u64], denied: &[u64], s: usize) -> Reach
     requires { ⌜ Ways (now jump) (now fall) (now touched) × ((length (now denied) ≡ 64) × (s < 64)) ⌝ }
     ensures { λ r. ⌜ ReachOf (now (jump .entry)) (now (fall .entry)) (now (touched .entry)) (now (denied .entry)) s r ⌝ }
@@ -114,7 +117,8 @@ fn listed_rows(firsts: &[u64]) -> [u64; 64]
     r
 }
 
-// The firsts of the edges by one way, from the edges that each block's effects deny and those that each edge opposes, by jump and by fall.
+// The firsts of the edges by one way, from the edges that each block's effects deny and those that each edge opposes,
+// by jump and by fall.
 fn firsts_of(
     tests: u64,
     jump: &[usize],
@@ -178,7 +182,8 @@ fn listed_of(jumped: sets::Firsts, fallen: sets::Firsts) -> sets::Edges
     sets::Edges { jump, fall }
 }
 
-// All that is found of a body, from what its blocks say by themselves: the crate listing reads the conflict list off it.
+// All that is found of a body, from what its blocks say by themselves: the crate listing reads the conflict list off
+// it.
 pub fn find(local: sets::Local) -> sets::Found
     requires { ⌜ Worded local ⌝ }
     ensures { λ r. ⌜ FoundFrom local r ⌝ }

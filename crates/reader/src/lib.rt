@@ -11,7 +11,7 @@ ghost use Rattle.form.specs.Form.{badTarget, outOfPlace, overLimit, payloadFaul
 ghost use Rattle.form.specs.Form.{counterAt, blockAt, effectAt, ownEffects, zeroBlock, zeroEffect, bodyOf, zeroBody};
 ghost use Rattle.form.specs.Relation.{eqZ};
 ghost use lib.IntN.{pos};
-ghost use Rattle.form.specs.Answer.{accepted, Judged, reading};
+ghost use Rattle.form.specs.Answer.{accepted, Judged, ReadAs};
 use form::Block;
 use form::Body;
 use form::Counter;
@@ -488,7 +488,7 @@ pub fn accepts(verdict: Verdict) -> bool
 
 // The reader, for any bytes: the verdict, and the body of an accepted form.
 pub fn read(s: &[u8]) -> Reading
-    ensures { λ r. ⌜ r ≡ reading (now (s .entry)) ⌝ }
+    ensures { λ r. ⌜ ReadAs (now (s .entry)) r ⌝ }
 {
     let verdict = judge(s);
     if accepts(verdict) {

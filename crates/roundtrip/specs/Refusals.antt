@@ -25,7 +25,7 @@ use Rattle.form.specs.declared.Written.the-variants.{Bytes, Refused as Unwritte
 use Rattle.form.specs.Form.{when, kindOf, lengthAt, kindAt, isUnknown, isBlock, isEffect, oneIf, recordsFrom, badField}
 use Rattle.form.specs.Form.{badTarget, outOfPlace, overLimit, payloadFault, recordFault, badEnd, farTarget, blockAt}
 use Rattle.form.specs.Form.{endFault, judged, judgeEnds, judgeRecords, judge, layBlocks, lay, countsFit}
-use Rattle.form.specs.Answer.{said, numberOf, Judged, reading, asJudged, Wrote}
+use Rattle.form.specs.Answer.{numberOf, Judged, ReadAs, asJudged, Wrote}
 use Rattle.form.specs.Laying.{blocksCounted, counts-known}
 use Rattle.form.specs.Records.{next, next-above, records-end, records-step}
 use Rattle.roundtrip.specs.Acceptance.{refused}
@@ -118,12 +118,8 @@ either P (Refused number place) g = inr (g number place refl)
 pub judge-says : (s : List ℕ) (v : Verdict) → Judged s v → AcceptsOrGives ReadersNumber v
 judge-says s v j = subst (AcceptsOrGives ReadersNumber) (sym (j .0)) (either ReadersNumber (judge s) (reader-gives s))
 
-pub read-says :
-    (s : List ℕ) (r : Reading) → r ≡ reading s
-    → (said (r .verdict) ≡ said (judge s)) × AcceptsOrGives ReadersNumber (r .verdict)
-read-says s r e =
-    let is : r .verdict ≡ judge s = ap (λ (x : Reading). x .verdict) e in
-    (ap said is, judge-says s (r .verdict) (is, ap said is))
+pub read-says : (s : List ℕ) (r : Reading) → ReadAs s r → AcceptsOrGives ReadersNumber (r .verdict)
+read-says s r e = judge-says s (r .verdict) (ap (λ (x : Reading). x .verdict) (e .0), e .1)
 
 -- ---- the writer
 

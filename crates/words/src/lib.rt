@@ -1,5 +1,5 @@
-// Sets of small numbers as words of 64 bits, bit k for the number k: the operations that the crates above compute with. Each says what
-// every bit of its result is (`bit` of the laws), those past 63 included.
+// Sets of small numbers as words of 64 bits, bit k for the number k: the operations that the crates above compute
+// with. Each says what every bit of its result is (`bit` of the laws), those past 63 included.
 ghost use mathlib.Core.Path.{_≡_};
 ghost use mathlib.Core.Bool.{_&&_, _||_, not};
 ghost use Prim.Native.Nat.{ℕ, _<_};

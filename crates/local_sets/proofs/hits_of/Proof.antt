@@ -1,4 +1,5 @@
--- `local_sets::hits_of` meets its contract. The loop's invariant: the words are those of the first k effects. The measure is what is left of the effects.
+-- `local_sets::hits_of` meets its contract. The loop's invariant: the words are those of the first k effects. The
+-- measure is what is left of the effects.
 use mathlib.Core.Path.{_≡_}
 use mathlib.Core.List.{List}
 use Prim.Native.Nat.{ℕ, _+_, _-_, _≤_, _<_}
@@ -40,12 +41,15 @@ loop-again c =
           let was = at .loop .inv .1 t effects m in
           let a : Effect = getD effects i zeroEffect in
           let done : List Effect = take (at .loop .k) (drop (start .args .from) effects) in
-          let in-all = inside (start .args .from) (at .loop .k) (start .args .own) (start .pre .1) (inner .loop-test .taken) in
+          let in-all = inside (start .args .from) (at .loop .k) (start .args .own) (start .pre .1)
+          (inner .loop-test .taken) in
           rw (take-next effects (start .args .from) (at .loop .k) zeroEffect (in-room (m .all) in-all))
           (record {
             touched = touched-more t a _ (m .ons .at i in-all) done _ _ (was .touched) (touched .either .ensures);
-            jumps = denied-more t a _ (m .ons .at i in-all) done (t .jump) _ _ _ (was .jumps) (m .jumps .at i in-all) (jumped .renewed .ensures);
-            falls = denied-more t a _ (m .ons .at i in-all) done (t .fall) _ _ _ (was .falls) (m .falls .at i in-all) (c .renewed2 .ensures);
+            jumps = denied-more t a _ (m .ons .at i in-all) done (t .jump) _ _ _ (was .jumps) (m .jumps .at i in-all)
+                (jumped .renewed .ensures);
+            falls = denied-more t a _ (m .ons .at i in-all) done (t .fall) _ _ _ (was .falls) (m .falls .at i in-all)
+                (c .renewed2 .ensures);
           }),
     )
 
@@ -57,5 +61,6 @@ returns c =
 pub hits-of-spec : {M : Type 1} → statement M
 hits-of-spec =
     tie.close
-    (tie.spec Inv-loop μ-loop loop-holds (λ c. omega arith) (λ c. omega arith) (λ c. omega arith) (λ _ _. tt) (λ c. omega arith) (λ c. omega arith) (λ _ _. tt)
+    (tie.spec Inv-loop μ-loop loop-holds (λ c. omega arith) (λ c. omega arith) (λ c. omega arith) (λ _ _. tt)
+    (λ c. omega arith) (λ c. omega arith) (λ _ _. tt)
     (λ c. omega arith) (λ c. omega arith) (λ _ _. tt) (λ c. omega arith) (λ c. omega arith) loop-again returns)

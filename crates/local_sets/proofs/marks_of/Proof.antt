@@ -1,5 +1,5 @@
--- `local_sets::marks_of` meets its contract. The loop's invariant: the first k effects have their marks, whatever tests the groups are of. The measure is what is left of
--- the 256.
+-- `local_sets::marks_of` meets its contract. The loop's invariant: the first k effects have their marks, whatever
+-- tests the groups are of. The measure is what is left of the 256.
 use mathlib.Core.Path.{_≡_, refl}
 use mathlib.Core.List.{List}
 use Prim.Native.Nat.{ℕ, _-_, _≤_}
@@ -22,7 +22,8 @@ abbrev Inv-loop : tie.InvT-loop
 Inv-loop groups jump fall constant effects on₀ by-jump₀ by-fall₀ k₀ on by-jump by-fall k =
     (k ≤ 256)
     × ((tests : ℕ) (variable : List ℕ) → OnVariable tests variable groups
-    → MarksOf k (record { tests = tests; variable = variable; jump = jump; fall = fall; constant = constant }) effects on by-jump by-fall)
+    → MarksOf k
+    (record { tests = tests; variable = variable; jump = jump; fall = fall; constant = constant }) effects on by-jump by-fall)
 
 abbrev μ-loop : tie.MeasureT-loop
 μ-loop groups jump fall constant effects on₀ by-jump₀ by-fall₀ k₀ on by-jump by-fall k = 256 - k
@@ -39,7 +40,9 @@ mul-alike : tie.Need-mul-alike Inv-loop μ-loop
 mul-alike c = fits-8 (c .before .struct-told .given .0 .1)
 
 shared-slice-read-alike : tie.Need-shared-slice-read-alike Inv-loop μ-loop
-shared-slice-read-alike c = in-room (c .before .before .before .before .before .before .before .before .before .pre .0) (c .before .before .struct-told .given .0 .1)
+shared-slice-read-alike c = in-room
+    (c .before .before .before .before .before .before .before .before .before .pre .0)
+    (c .before .before .struct-told .given .0 .1)
 
 opposed-requires : tie.Need-opposed-requires Inv-loop μ-loop
 opposed-requires c κs = let p = c .before .before .before .before .before .before .before .before .before .before .before .pre in (p .1 .0, p .1 .1 .1)
@@ -67,8 +70,12 @@ loop-again c =
           record {
             all = was .all;
             ons = told-more _ _ _ _ _ _ below (was .ons) alike;
-            jumps = told-more _ _ _ _ _ _ below (was .jumps) (mark-at t (t .jump) a _ _ _ alike (only .only .ensures) (rw (toZ-ofZ value) at (jumped .opposed .ensures)));
-            falls = told-more _ _ _ _ _ _ below (was .falls) (mark-at t (t .fall) a _ _ _ alike (only .only .ensures) (rw (toZ-ofZ value) at (c .opposed2 .ensures)));
+            jumps = told-more _ _ _ _ _ _ below (was .jumps)
+                (mark-at t (t .jump) a _ _ _ alike (only .only .ensures)
+                (rw (toZ-ofZ value) at (jumped .opposed .ensures)));
+            falls = told-more _ _ _ _ _ _ below (was .falls)
+                (mark-at t (t .fall) a _ _ _ alike (only .only .ensures)
+                (rw (toZ-ofZ value) at (c .opposed2 .ensures)));
           },
     )
 
@@ -81,7 +88,15 @@ returns c tests variable g =
 pub marks-of-spec : {M : Type 1} → statement M
 marks-of-spec =
     tie.close
-    (tie.spec Inv-loop μ-loop loop-holds (λ c. fits-8 (c .loop-test .taken)) (λ c. c .loop-test .taken) cast-v mul-alike shared-slice-read-alike (λ _ _. tt)
-    (λ c. fits-8 (c .before .before .before .before .before .before .loop-test .taken)) (λ c. c .before .before .before .before .before .before .loop-test .taken) opposed-requires (λ c. fits-8 (c .before .before .before .before .before .before .before .loop-test .taken)) (λ c. c .before .before .before .before .before .before .before .loop-test .taken)
-    opposed-requires-2 (λ c. fits-8 (c .before .before .before .before .before .before .before .before .loop-test .taken)) (λ c. c .before .before .before .before .before .before .before .before .loop-test .taken) (λ c. fits-next (c .before .before .before .before .before .before .before .before .loop-test .taken))
-    (λ c. less-left 256 (c .before .before .before .before .before .before .before .before .loop-test .taken)) loop-again returns)
+    (tie.spec Inv-loop μ-loop loop-holds (λ c. fits-8 (c .loop-test .taken))
+    (λ c. c .loop-test .taken) cast-v mul-alike shared-slice-read-alike (λ _ _. tt)
+    (λ c. fits-8 (c .before .before .before .before .before .before .loop-test .taken))
+    (λ c. c .before .before .before .before .before .before .loop-test .taken) opposed-requires
+    (λ c. fits-8 (c .before .before .before .before .before .before .before .loop-test .taken))
+    (λ c. c .before .before .before .before .before .before .before .loop-test .taken)
+    opposed-requires-2 (λ c. fits-8
+    (c .before .before .before .before .before .before .before .before .loop-test .taken))
+    (λ c. c .before .before .before .before .before .before .before .before .loop-test .taken)
+    (λ c. fits-next (c .before .before .before .before .before .before .before .before .loop-test .taken))
+    (λ c. less-left 256
+    (c .before .before .before .before .before .before .before .before .loop-test .taken)) loop-again returns)

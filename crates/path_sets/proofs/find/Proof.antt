@@ -19,7 +19,8 @@ returns c =
     let listed = c .before in
     let two = listed .before in
     let one = two .before in
-    λ body sound is. found-is body sound _ _ _ (listed .listed-of .ensures) _ is (one .firsts-by .ensures) (two .firsts-by2 .ensures)
+    λ body sound is. found-is body sound _ _ _ (listed .listed-of .ensures) _ is (one .firsts-by .ensures)
+    (two .firsts-by2 .ensures)
 
 pub find-spec : {M : Type 1} → statement M
 find-spec = tie.close (tie.spec firsts-by-requires firsts-by-requires-2 (λ c κs. search needs) returns)

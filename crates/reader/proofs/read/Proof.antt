@@ -5,7 +5,7 @@ use mathlib.Core.Path.{_≡_, ap, sym, _∙_}
 use Prim.Native.Nat.{ℕ}
 use Rattle.form.specs.declared.Body.{Body}
 use Rattle.form.specs.declared.Verdict.{Verdict}
-use Rattle.form.specs.Answer.{accepted, reading}
+use Rattle.form.specs.Answer.{accepted, said, ReadAs}
 use Rattle.form.specs.Form.{when, judge, bodyOf, zeroBody}
 use Rattle.reader.proofs.read.Statement.{statement}
 use Rattle.reader.proofs.read.Tie as tie
@@ -14,9 +14,11 @@ use Rattle.reader.proofs.read.Tie as tie
 reading-is :
     (s : List ℕ) (v : Verdict) (t : Bool) (body : Body) → v ≡ judge s → t ≡ accepted v
     → body ≡ when t (bodyOf s) zeroBody
-    → record { verdict = v; body = body } ≡ reading s
-reading-is s v t body p q r =
-    λ i. record { verdict = p i; body = (r ∙ ap (λ (b : Bool). when b (bodyOf s) zeroBody) (q ∙ ap accepted p)) i }
+    → ReadAs s (record { verdict = v; body = body })
+reading-is s v t body p q r = (
+  (λ i. record { verdict = p i; body = (r ∙ ap (λ (b : Bool). when b (bodyOf s) zeroBody) (q ∙ ap accepted p)) i }),
+  ap said p,
+)
 
 returns : tie.Need-returns
 returns c =

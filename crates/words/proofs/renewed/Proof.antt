@@ -7,7 +7,8 @@ use Rattle.words.proofs.renewed.Statement.{statement}
 use Rattle.words.proofs.renewed.Tie as tie
 
 returns : tie.Need-returns
-returns c = λ j. c .either .ensures j ∙ ap (λ (b : Bool). b || bit (c .before .before .args .c) j) (c .before .less .ensures j)
+returns c = λ j. c .either .ensures j
+    ∙ ap (λ (b : Bool). b || bit (c .before .before .args .c) j) (c .before .less .ensures j)
 
 pub renewed-spec : {M : Type 1} → statement M
 renewed-spec = tie.close (tie.spec (λ _ _. tt) (λ _ _. tt) returns)
