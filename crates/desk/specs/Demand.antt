@@ -23,18 +23,18 @@ use Rattle.desk.specs.Answer.{walkValues, sweptOutcome, OwnSweepOwed}
 -- no run of at most so many iterations costs more than the bound
 abbrev pub Bounds : (form : List ℕ) → (iterations bound : ℕ) → Type 0
 Bounds form iterations bound =
-    {l : List (Path × ℕ)} → Run (bodyOf form) l → length l ≤ iterations → runCost (bodyOf form) (stepCost (bodyOf form)) l ≤ bound
+    (l : List (Path × ℕ)) → Run (bodyOf form) l → length l ≤ iterations → runCost (bodyOf form) (stepCost (bodyOf form)) l ≤ bound
 
 module _ (form lent held : List ℕ) where
   pub walk-sound : (budget : ℕ) (a : WalkNumbers) → WalkOwed form budget lent (walkValues a, held) → a .number ≡ 0
       → Bounds form (a .iterations) (a .bound)
-  walk-sound budget a o z =
-      answered-sound form lent held (a .iterations) (a .weight) (a .bound) (walk-answered form budget lent (walkValues a, held) o z)
+  walk-sound budget a o z l r n =
+      answered-sound form lent held (a .iterations) (a .weight) (a .bound) (walk-answered form budget lent (walkValues a, held) o z) r n
 
   pub sweep-sound : (table rows : List Entry) (a : SweepNumbers) → SweepOwed form lent table (sweptOutcome a held rows) → a .number ≡ 0
       → Bounds form (a .iterations) (a .bound)
-  sweep-sound table rows a o z =
-      answered-sound form lent held (a .iterations) (a .weight) (a .bound) (sweep-answered form lent table (sweptOutcome a held rows) o z)
+  sweep-sound table rows a o z l r n =
+      answered-sound form lent held (a .iterations) (a .weight) (a .bound) (sweep-answered form lent table (sweptOutcome a held rows) o z) r n
 
   pub own-sound : (a : SweepNumbers) → OwnSweepOwed form lent a held → a .number ≡ 0 → Bounds form (a .iterations) (a .bound)
   own-sound a (rows, o) z = sweep-sound ownTable rows a o z
