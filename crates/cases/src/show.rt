@@ -6,9 +6,6 @@ use listing::Listed;
 use sweep::SweepAnswer;
 use walk::WalkAnswer;
 
-// The report program's table, 1,536 entries of five words, and its walk budget.
-const TABLE_WORDS: usize = 7680;
-
 pub fn say(text: &[u8]) {
     io::write_all(1, text);
 }
@@ -98,9 +95,8 @@ pub fn list(form: &[u8]) {
 
 pub fn sweep(form: &[u8]) {
     say(b"  sweep:");
-    let mut table = [0u64; TABLE_WORDS];
     let mut bytes = [0u8; 64];
-    match sweep::sweep(form, &mut table, &mut bytes) {
+    match sweep::sweep_own(form, &mut bytes) {
         SweepAnswer::Routed {
             iterations,
             weight,

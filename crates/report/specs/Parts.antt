@@ -20,7 +20,7 @@ use Rattle.sweep.specs.declared.SweepAnswer.{SweepAnswer}
 use Rattle.sweep.specs.declared.SweepAnswer.the-variants.{Routed, Refused as Unswept}
 use Rattle.walk.specs.declared.WalkAnswer.{WalkAnswer}
 use Rattle.walk.specs.Answer.{WalkOwed, said}
-use Rattle.table.specs.Answer.{OwnTableOwed}
+use Rattle.sweep.specs.Answer.{OwnTableOwed}
 use Rattle.table.specs.Uniqueness.{own-answered}
 use Rattle.report.specs.Report.{walkedLine, blocksWord, iterationsWord, conflictsWord, weightWord, boundWord, keptWord, noRoute, budget, Reported}
 use Rattle.text.specs.Text.{line, refusalLine, routeLine}

@@ -1,4 +1,4 @@
--- What the report program prints, after document 01, 'The trainer's cases'. Trusted: definitions only. A text is a list of ASCII codes. Rests on table's Answer
+-- What the report program prints, after document 01, 'The trainer's cases'. Trusted: definitions only. A text is a list of ASCII codes. Rests on the sweep's Answer
 -- and routes' WalkAnswer (what the two ways owe) and on form's Form and Conflict (the body and its conflict list).
 use mathlib.Core.List.{List, [], _∷_, _++_}
 use mathlib.Core.Path.{_≡_}
@@ -11,7 +11,7 @@ use Rattle.sweep.specs.declared.SweepAnswer.the-variants.{Routed, Refused as Un
 use Rattle.walk.specs.declared.WalkAnswer.{WalkAnswer}
 use Rattle.walk.specs.declared.WalkAnswer.the-variants.{Walked, Refused}
 use Rattle.walk.specs.Answer.{WalkOwed, said}
-use Rattle.table.specs.Answer.{OwnTableOwed}
+use Rattle.sweep.specs.Answer.{OwnTableOwed}
 use Rattle.text.specs.Text.{line, refusalLine, routeLine}
 
 -- ---- the words
