@@ -1,6 +1,6 @@
--- Demand 3 for the calls that C makes, from their promises alone: no run of at most the answered count of iterations costs more than
--- the answered bound (`walk-sound`, `sweep-sound`, `own-sound`); wherever two calls answer they say the same (`calls-agree`,
--- `own-agrees`); and 10 to 20 are refused alike (`refused-alike`). Rests on Answer and on ways.
+-- Demand 3 for the calls that C makes, from their promises alone: no run of at most the answered count of iterations
+-- costs more than the answered bound (`walk-sound`, `sweep-sound`, `own-sound`); wherever two calls answer they say the
+-- same (`calls-agree`, `own-agrees`); and 10 to 20 are refused alike (`refused-alike`). Rests on Answer and on ways.
 use mathlib.Core.List.{List}
 use mathlib.Core.Path.{_≡_}
 use Prim.Native.Nat.{ℕ, _<_, _≤_}
@@ -23,20 +23,25 @@ use Rattle.desk.specs.Answer.{walkValues, sweptOutcome, OwnSweepOwed}
 -- no run of at most so many iterations costs more than the bound
 abbrev pub Bounds : (form : List ℕ) → (iterations bound : ℕ) → Type 0
 Bounds form iterations bound =
-    (l : List (Path × ℕ)) → Run (bodyOf form) l → length l ≤ iterations → runCost (bodyOf form) (stepCost (bodyOf form)) l ≤ bound
+    (l : List (Path × ℕ)) → Run (bodyOf form) l → length l ≤ iterations
+    → runCost (bodyOf form) (stepCost (bodyOf form)) l ≤ bound
 
 module _ (form lent held : List ℕ) where
   pub walk-sound : (budget : ℕ) (a : WalkNumbers) → WalkOwed form budget lent (walkValues a, held) → a .number ≡ 0
       → Bounds form (a .iterations) (a .bound)
   walk-sound budget a o z l r n =
-      answered-sound form lent held (a .iterations) (a .weight) (a .bound) (walk-answered form budget lent (walkValues a, held) o z) r n
+      answered-sound form lent held (a .iterations) (a .weight) (a .bound)
+      (walk-answered form budget lent (walkValues a, held) o z) r n
 
-  pub sweep-sound : (table rows : List Entry) (a : SweepNumbers) → SweepOwed form lent table (sweptOutcome a held rows) → a .number ≡ 0
+  pub sweep-sound : (table rows : List Entry) (a : SweepNumbers) → SweepOwed form lent table (sweptOutcome a held rows)
+      → a .number ≡ 0
       → Bounds form (a .iterations) (a .bound)
   sweep-sound table rows a o z l r n =
-      answered-sound form lent held (a .iterations) (a .weight) (a .bound) (sweep-answered form lent table (sweptOutcome a held rows) o z) r n
+      answered-sound form lent held (a .iterations) (a .weight) (a .bound)
+      (sweep-answered form lent table (sweptOutcome a held rows) o z) r n
 
-  pub own-sound : (a : SweepNumbers) → OwnSweepOwed form lent a held → a .number ≡ 0 → Bounds form (a .iterations) (a .bound)
+  pub own-sound : (a : SweepNumbers) → OwnSweepOwed form lent a held → a .number ≡ 0
+      → Bounds form (a .iterations) (a .bound)
   own-sound a (rows, o) z = sweep-sound ownTable rows a o z
 
 -- ---- agreement, whatever was lent to each
@@ -46,10 +51,13 @@ module _ (form : List ℕ) (budget : ℕ) (lent held lent′ held′ : List ℕ)
       → SweepOwed form lent′ table (sweptOutcome b held′ rows) → a .number ≡ 0 → b .number ≡ 0
       → Agree form (a .iterations) (a .weight) (a .bound) (b .iterations) (b .weight) (b .bound) held held′
   calls-agree table rows o p y z =
-      answered-agree dearest form lent held lent′ held′ (a .iterations) (a .weight) (a .bound) (b .iterations) (b .weight) (b .bound)
-      (walk-answered form budget lent (walkValues a, held) o y) (sweep-answered form lent′ table (sweptOutcome b held′ rows) p z)
+      answered-agree dearest form lent held lent′ held′ (a .iterations) (a .weight) (a .bound) (b .iterations)
+      (b .weight) (b .bound)
+      (walk-answered form budget lent (walkValues a, held) o y)
+      (sweep-answered form lent′ table (sweptOutcome b held′ rows) p z)
 
-  pub own-agrees : WalkOwed form budget lent (walkValues a, held) → OwnSweepOwed form lent′ b held′ → a .number ≡ 0 → b .number ≡ 0
+  pub own-agrees : WalkOwed form budget lent (walkValues a, held) → OwnSweepOwed form lent′ b held′ → a .number ≡ 0
+      → b .number ≡ 0
       → Agree form (a .iterations) (a .weight) (a .bound) (b .iterations) (b .weight) (b .bound) held held′
   own-agrees o (rows, p) y z = calls-agree ownTable rows o p y z
 
@@ -58,4 +66,5 @@ module _ (form : List ℕ) (budget : ℕ) (lent held lent′ held′ : List ℕ)
       → SweepOwed form lent′ table (sweptOutcome b held′ rows)
       → (0 < a .number → a .number < 40 → (b .number ≡ a .number) × (b .place ≡ a .place))
       × (0 < b .number → b .number < 40 → (a .number ≡ b .number) × (a .place ≡ b .place))
-  refused-alike table rows o p = refuse-alike form budget lent lent′ table (walkValues a, held) (sweptOutcome b held′ rows) o p
+  refused-alike table rows o p =
+      refuse-alike form budget lent lent′ table (walkValues a, held) (sweptOutcome b held′ rows) o p

@@ -30,7 +30,7 @@ use Rattle.sets.specs.declared.Sets.{Sets}
 use Rattle.sets.specs.declared.Found.{Found}
 use Rattle.sets.specs.Local.{localOf}
 use Rattle.sets.specs.Found.{setsOf, firstsOf, foundOf}
-use Rattle.path_sets.specs.Parts.{EitherAt, ListedAt, Paths, AssignedAt, LedAt, OnTest, FirstsOf, ListedOf}
+use Rattle.path_sets.specs.Parts.{EitherAt, ListedAt, Paths, AssignedAt, LedAt, OnTest, FirstsOf, ListedBy}
 use Rattle.path_sets.specs.Parts.{Bits, FirstsBy, FoundBy}
 
 module _ (body : Body) (few : body .count ≤ 64) where
@@ -247,7 +247,8 @@ module _ (body : Body) (sound : Sound body) where
   Fallen own p = FirstsOf (own .tests) (own .targets .jump) (own .targets .fall) (own .touched) (own .denied .fall)
       (own .falling .jump) (own .falling .fall) p
 
-  module _ (jumped fallen : Firsts) (x : Edges) (lists : ListedOf jumped fallen x) where
+  module _ (jumped fallen : Firsts) (x : Edges)
+      (by-jump : ListedBy jumped (x .jump)) (by-fall : ListedBy fallen (x .fall)) where
     found-own : Jumped (localOf body) jumped → Fallen (localOf body) fallen
         → foundWith (localOf body) jumped fallen x ≡ foundOf body
     unfolding localOf setsOf foundOf
@@ -263,8 +264,8 @@ module _ (body : Body) (sound : Sound body) where
             jumping = localOf body .jumping;
             falling = localOf body .falling;
             listed = record {
-              jump = listed-is 1 jumped by-one (inl refl) (lists .by-jump) (x .jump) (lists .all-jump) (lists .jumps) i;
-              fall = listed-is 2 fallen by-two (inr refl) (lists .by-fall) (x .fall) (lists .all-fall) (lists .falls) i;
+              jump = listed-is 1 jumped by-one (inl refl) (by-jump .all) (x .jump) (by-jump .firsts) (by-jump .lists) i;
+              fall = listed-is 2 fallen by-two (inr refl) (by-fall .all) (x .fall) (by-fall .firsts) (by-fall .lists) i;
             };
           };
           variable = localOf body .variable;

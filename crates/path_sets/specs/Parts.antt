@@ -12,7 +12,6 @@ use Rattle.form.specs.declared.Body.{Body}
 use Rattle.form.specs.Conflict.{block, assigned}
 use Rattle.lower_laws.specs.Joined.{byWay}
 use Rattle.sets.specs.declared.Firsts.{Firsts}
-use Rattle.sets.specs.declared.Edges.{Edges}
 use Rattle.sets.specs.declared.Found.{Found}
 use Rattle.sets.specs.Local.{Above}
 use Rattle.path_sets.specs.declared.Reach.{Reach}
@@ -79,14 +78,11 @@ pub record FirstsOf (tests : ℕ) (jump fall touched denied jumping falling : Li
   pub jumps : Told 0 (OnTest tests (LedAt jump fall touched jumping jump)) 64 64 (p .jump)
   pub falls : Told 0 (OnTest tests (LedAt jump fall touched falling fall)) 64 64 (p .fall)
 
--- for each b, the edges that have a first below b
-pub record ListedOf (jumped fallen : Firsts) (r : Edges) : Type 0 where
-  pub by-jump : List ℕ
-  pub by-fall : List ℕ
-  pub all-jump : Told 0 (EitherAt (jumped .assigned) (jumped .jump) (jumped .fall)) 64 64 by-jump
-  pub all-fall : Told 0 (EitherAt (fallen .assigned) (fallen .jump) (fallen .fall)) 64 64 by-fall
-  pub jumps : Told 0 (ListedAt by-jump) 64 64 (r .jump)
-  pub falls : Told 0 (ListedAt by-fall) 64 64 (r .fall)
+-- for each b, the edges by one way that have a first below b
+pub record ListedBy (p : Firsts) (r : List ℕ) : Type 0 where
+  pub all : List ℕ
+  pub firsts : Told 0 (EitherAt (p .assigned) (p .jump) (p .fall)) 64 64 all
+  pub lists : Told 0 (ListedAt all) 64 64 r
 
 -- bits of a row b that has a word for each block
 abbrev pub Bits : (ℕ → ℕ → Bool) → ℕ → ℕ → Type 0

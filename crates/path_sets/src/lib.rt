@@ -9,7 +9,7 @@ ghost use Rattle.words.specs.Filled.{Told};
 ghost use Rattle.sets.specs.Local.{EdgesSized, Worded};
 ghost use Rattle.sets.specs.Found.{SetsFrom, FoundFrom};
 ghost use Rattle.path_sets.specs.Parts.{EitherAt, ListedAt, LowestFirsts, Ways, noReach, ReachOf, FirstsOf};
-ghost use Rattle.path_sets.specs.Parts.{ListedOf};
+ghost use Rattle.path_sets.specs.Parts.{ListedBy};
 
 // The blocks from which a jump, and those from which a fall, leads to a clean path to a test; and those whose effects
 // deny the test's edge by one way and from which such a path leads, or which are its own.
@@ -166,20 +166,15 @@ fn firsts_by(
     firsts_of(tests, &jump, &fall, &touched, &denied, &jumping, &falling)
 }
 
-fn listed_of(jumped: sets::Firsts, fallen: sets::Firsts) -> sets::Edges
-    ensures { λ r. ⌜ ListedOf jumped fallen r ⌝ }
+// For each b, the edges by one way that have a first below b.
+fn listed_by(p: sets::Firsts) -> [u64; 64]
+    ensures { λ r. ⌜ ListedBy p r ⌝ }
 {
-    let a = jumped.assigned;
-    let j = jumped.jump;
-    let f = jumped.fall;
-    let by_jump = all_firsts(&a, &j, &f);
-    let jump = listed_rows(&by_jump);
-    let c = fallen.assigned;
-    let k = fallen.jump;
-    let g = fallen.fall;
-    let by_fall = all_firsts(&c, &k, &g);
-    let fall = listed_rows(&by_fall);
-    sets::Edges { jump, fall }
+    let a = p.assigned;
+    let j = p.jump;
+    let f = p.fall;
+    let all = all_firsts(&a, &j, &f);
+    listed_rows(&all)
 }
 
 // All that is found of a body, from what its blocks say by themselves: the crate listing reads the conflict list off
@@ -198,7 +193,9 @@ pub fn find(local: sets::Local) -> sets::Found
     let deny_fall = denied.fall;
     let jumped = firsts_by(tests, targets, touched, deny_jump, jumping);
     let fallen = firsts_by(tests, targets, touched, deny_fall, falling);
-    let listed = listed_of(jumped, fallen);
+    let jump = listed_by(jumped);
+    let fall = listed_by(fallen);
+    let listed = sets::Edges { jump, fall };
     let sets = sets::Sets {
         targets,
         touched,

@@ -39,7 +39,7 @@ use Rattle.sweep.specs.declared.SweepAnswer.{SweepAnswer}
 use Rattle.sweep.specs.declared.SweepAnswer.the-variants.{Routed, Refused}
 use Rattle.sweep.specs.Answer as Answer
 use Rattle.sweep.specs.Answer.{noEntry, Outcome, outcomeOf, refused, tableWith, rowsOn, routed, swept, sweepOutcome, SweepOwed}
-use Rattle.sweep.specs.Table.{entriesIn, in-length, in-mem, fetched, fetched-none, fetched-at}
+use Rattle.sweep.specs.Table.{entriesIn, in-length, in-mem, rowFetched, fetched-none, row-fetched-at}
 use Rattle.sweep.specs.Turn.{rowOf, range-of}
 use Rattle.sweep.specs.Drive.{heaviestBy, longestRow, highestCrowd, sweptOf, completeFrom, SweptAs, weight-few}
 
@@ -233,21 +233,21 @@ module _ (form : List ℕ) (ready : Prepared) (is : PreparedOf form ready) (lent
         by (all-blocks e l m) (not-ready h z) = (λ h. absurd (never (e ∙ z) h), omega arith)
         by (all-blocks e l m) (is-ready z s h) = (λ h. subst (PlanOf (ready .plan)) (sym e) (plan-of s), omega arith)
 
-    module _ (table : List Entry) (swept : Swept) (size : length table ≡ length lent) (rowed : Rowed (ready .plan) b lent table swept) (first : List ℕ) (first-is : first ≡ fetched table 0 (min b 1)) where
+    module _ (table : List Entry) (swept : Swept) (size : length table ≡ length lent) (rowed : Rowed (ready .plan) b lent table swept) (first : List ℕ) (first-is : first ≡ rowFetched table 0 (min b 1)) where
       -- what `fetch` asks
       pub first-asked : (min b 1 ≤ 64) × ((k : ℕ) → k < min b 1 → 0 + k < length table)
       first-asked = (omega arith, λ k h. omega (arith, rows-asked .1))
 
       -- row 0's entry, where there is one
       entry : 0 < b → entryAt first 0 ≡ tupleOf (getD table 0 noEntry)
-      entry h = ap (λ l. entryAt l 0) first-is ∙ fetched-at table 0 (min b 1) (omega arith) 0 (omega arith) ∙ ap (λ i. tupleOf (getD table i noEntry)) (zero-add 0)
+      entry h = ap (λ l. entryAt l 0) first-is ∙ row-fetched-at table 0 (min b 1) (omega arith) 0 (omega arith) ∙ ap (λ i. tupleOf (getD table i noEntry)) (zero-add 0)
 
       -- what `conclude` asks
       pub light : WeightFew swept first
       light keep find e h = by blocks (known form ready is)
         where
           no-weight : b ≡ 0 → wayOf first .weight ≤ costLimit
-          no-weight z = subst (λ (l : List ℕ). wayOf l .weight ≤ costLimit) (sym (first-is ∙ ap (λ m. fetched table 0 (min m 1)) z ∙ sym (fetched-none table 0))) (omega (arith, zero-at 2))
+          no-weight z = subst (λ (l : List ℕ). wayOf l .weight ≤ costLimit) (sym (first-is ∙ ap (λ m. rowFetched table 0 (min m 1)) z ∙ sym (fetched-none zeroRow table 0))) (omega (arith, zero-at 2))
 
           by : Blocks → Known form ready → wayOf first .weight ≤ costLimit
           by (no-block z) k = no-weight z

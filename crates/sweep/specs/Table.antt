@@ -65,39 +65,47 @@ in-words row l (suc n) i j h =
 
 -- ---- what is fetched
 
--- a row of zeros with n of the table's entries in front, those from entry `from` on
-unfoldable pub fetched : (table : List Entry) → (from n : ℕ) → List ℕ
-fetched table from zero = zeroRow
-fetched table from (suc k) = entryPut (fetched table from k) k (tupleOf (getD table (from + k) noEntry))
+-- the row with n of the table's entries in front, those from entry `from` on
+unfoldable pub fetched : (row : List ℕ) → (table : List Entry) → (from n : ℕ) → List ℕ
+fetched row table from zero = row
+fetched row table from (suc k) = entryPut (fetched row table from k) k (tupleOf (getD table (from + k) noEntry))
 
-module _ (table : List Entry) (from : ℕ) where
-  pub fetched-none : zeroRow ≡ fetched table from 0
+module _ (row : List ℕ) (table : List Entry) (from : ℕ) where
+  pub fetched-none : row ≡ fetched row table from 0
   unfolding fetched
   fetched-none = refl
 
-  pub fetched-more : (k : ℕ) → entryPut (fetched table from k) k (tupleOf (getD table (from + k) noEntry)) ≡ fetched table from (suc k)
+  pub fetched-more : (k : ℕ) → entryPut (fetched row table from k) k (tupleOf (getD table (from + k) noEntry)) ≡ fetched row table from (suc k)
   unfolding fetched
   fetched-more k = refl
 
-  pub fetched-length : (n : ℕ) → length (fetched table from n) ≡ 320
+  pub fetched-length : (n : ℕ) → length (fetched row table from n) ≡ length row
   unfolding fetched
-  fetched-length zero = zero-length
-  fetched-length (suc k) = put-length (fetched table from k) k (tupleOf (getD table (from + k) noEntry)) ∙ fetched-length k
+  fetched-length zero = refl
+  fetched-length (suc k) = put-length (fetched row table from k) k (tupleOf (getD table (from + k) noEntry)) ∙ fetched-length k
 
-  pub fetched-at : (n : ℕ) → n ≤ 64 → (j : ℕ) → j < n → entryAt (fetched table from n) j ≡ tupleOf (getD table (from + j) noEntry)
+  pub fetched-at : (n : ℕ) → 5 * n ≤ length row → (j : ℕ) → j < n → entryAt (fetched row table from n) j ≡ tupleOf (getD table (from + j) noEntry)
   unfolding fetched
-  fetched-at (suc k) few j h = split (eqb j k)
+  fetched-at (suc k) room j h = split (eqb j k)
       (λ q. let e = eqb-true j k q in
-      ap (entryAt (fetched table from (suc k))) e
-      ∙ put-at (fetched table from k) k (tupleOf (getD table (from + k) noEntry)) (omega (arith, fetched-length k, few))
+      ap (entryAt (fetched row table from (suc k))) e
+      ∙ put-at (fetched row table from k) k (tupleOf (getD table (from + k) noEntry)) (omega (arith, fetched-length k, room))
       ∙ ap (λ i. tupleOf (getD table (from + i) noEntry)) (sym e))
       (λ q. let e = eqb-false j k q in
-      entry-alike (fetched table from (suc k)) (fetched table from k) j j
-      (λ i l. put-below (fetched table from k) k (tupleOf (getD table (from + k) noEntry)) (5 * j + i) (omega arith))
+      entry-alike (fetched row table from (suc k)) (fetched row table from k) j j
+      (λ i l. put-below (fetched row table from k) k (tupleOf (getD table (from + k) noEntry)) (5 * j + i) (omega arith))
       ∙ fetched-at k (omega arith) j (omega arith))
 
-  pub fetched-entries : (n : ℕ) → n ≤ 64 → entriesFrom (fetched table from n) 0 n ≡ entriesIn table from n
-  fetched-entries n few = in-words (fetched table from n) table n 0 from (λ k h. ap (entryAt (fetched table from n)) (zero-add k) ∙ fetched-at n few k h)
+-- a row of the table's entries, and zeros behind them
+abbrev pub rowFetched : (table : List Entry) → (from n : ℕ) → List ℕ
+rowFetched table from n = fetched zeroRow table from n
+
+module _ (table : List Entry) (from : ℕ) where
+  pub row-fetched-at : (n : ℕ) → n ≤ 64 → (j : ℕ) → j < n → entryAt (rowFetched table from n) j ≡ tupleOf (getD table (from + j) noEntry)
+  row-fetched-at n few = fetched-at zeroRow table from n (omega (arith, zero-length))
+
+  pub fetched-entries : (n : ℕ) → n ≤ 64 → entriesFrom (rowFetched table from n) 0 n ≡ entriesIn table from n
+  fetched-entries n few = in-words (rowFetched table from n) table n 0 from (λ k h. ap (entryAt (rowFetched table from n)) (zero-add k) ∙ row-fetched-at n few k h)
 
 -- ---- what is stored
 

@@ -31,12 +31,12 @@ use Rattle.rows.specs.declared.Tails.{Tails}
 use Rattle.rows.specs.Entries.{entryAt, entriesFrom, betterOf, Grown, entries-length}
 use Rattle.rows.specs.Steps.{sideOf, stepKey, stepWords, step-key, step-words}
 use Rattle.rows.specs.Rows.{sourceOf, manyOf, tailsBy, pouredBy, leftFrom, left-grows, Ready}
-use Rattle.rows.specs.Begun.{Holds, begunWith}
+use Rattle.rows.specs.Begun.{Holds, begunWith, zeroRow, zero-length}
 use Rattle.sweep.specs.declared.Drive.{Drive}
 use Rattle.sweep.specs.declared.Sources.{Sources}
 use Rattle.sweep.specs.declared.Built.{Built}
 use Rattle.sweep.specs.Answer.{noEntry}
-use Rattle.sweep.specs.Table.{entriesIn, fetched, fetched-at, fetched-length, fetched-entries, stored, stored-is, structsOf}
+use Rattle.sweep.specs.Table.{entriesIn, rowFetched, row-fetched-at, fetched-length, fetched-entries, stored, stored-is, structsOf}
 
 -- ---- pouring by steps that agree on the entries
 
@@ -219,7 +219,7 @@ module _ (plan : List ℕ) (count : ℕ) (at : Drive) (table : List Entry) (t : 
     many = getD (at .lengths) target 0
 
     abbrev source : List ℕ
-    source = fetched table (firstOf target) many
+    source = rowFetched table (firstOf target) many
 
     known : (i : ℕ) → i < many → firstOf target ≡ 64 * target
     known i h = split (ltb target 64) (λ q. rw q refl) (λ q. absurd (never (ltb-false target 64 q)))
@@ -233,7 +233,7 @@ module _ (plan : List ℕ) (count : ℕ) (at : Drive) (table : List Entry) (t : 
     source-light : (way i : ℕ) → i < many → costAt plan block way + entryAt source i .1 .0 < 2 ^ 64
     source-light way i h =
         let e : entryAt source i .1 .0 ≡ getD table (64 * target + i) noEntry .way .weight =
-        ap (λ (e : Key × Words). e .1 .0) (fetched-at table (firstOf target) many (t .few target) i h) ∙ ap (λ f. getD table (f + i) noEntry .way .weight) (known i h) in
+        ap (λ (e : Key × Words). e .1 .0) (row-fetched-at table (firstOf target) many (t .few target) i h) ∙ ap (λ f. getD table (f + i) noEntry .way .weight) (known i h) in
         subst (λ (n : ℕ). costAt plan block way + n < 2 ^ 64) (sym e) (t .light way target i h)
 
     source-row : entriesFrom source 0 many ≡ rowIn table (at .lengths) target
@@ -264,8 +264,8 @@ module _ (plan : List ℕ) (count : ℕ) (at : Drive) (table : List Entry) (t : 
   ready = record {
     size = t .size;
     below = omega (arith, t .some, t .most);
-    first-size = fetched-length table (firstOf (targetAt plan block 1)) (many (targetAt plan block 1));
-    second-size = fetched-length table (firstOf (targetAt plan block 2)) (many (targetAt plan block 2));
+    first-size = fetched-length zeroRow table (firstOf (targetAt plan block 1)) (many (targetAt plan block 1)) ∙ zero-length;
+    second-size = fetched-length zeroRow table (firstOf (targetAt plan block 2)) (many (targetAt plan block 2)) ∙ zero-length;
     jumps-few = t .few (targetAt plan block 1);
     falls-few = t .few (targetAt plan block 2);
     light = λ way i. by way i (eqb way 1);
@@ -306,14 +306,14 @@ module _ (plan : List ℕ) (count : ℕ) (at : Drive) (table : List Entry) (t : 
     pub fall-asked : (r .falls ≤ 64) × ((k : ℕ) → k < r .falls → r .fall + k < length table)
     fall-asked = subst (λ (s : Sources). (s .falls ≤ 64) × ((k : ℕ) → k < s .falls → s .fall + k < length table)) (sym r-is) (t .few (targetAt plan block 2), source-inside (targetAt plan block 2))
 
-    module _ (first second : List ℕ) (first-is : first ≡ fetched table (r .jump) (r .jumps)) (second-is : second ≡ fetched table (r .fall) (r .falls)) where
+    module _ (first second : List ℕ) (first-is : first ≡ rowFetched table (r .jump) (r .jumps)) (second-is : second ≡ rowFetched table (r .fall) (r .falls)) where
       abbrev Asked : Sources → List ℕ → List ℕ → Type 0
       Asked s first second = Ready plan (s .b) (tailsIn s) first second
 
       pub make-asked : Asked r first second
       make-asked =
-          subst (λ (l : List ℕ). Asked r l second) (sym first-is) (subst (λ (l : List ℕ). Asked r (fetched table (r .jump) (r .jumps)) l) (sym second-is)
-          (subst (λ (s : Sources). Asked s (fetched table (s .jump) (s .jumps)) (fetched table (s .fall) (s .falls))) (sym r-is) ready))
+          subst (λ (l : List ℕ). Asked r l second) (sym first-is) (subst (λ (l : List ℕ). Asked r (rowFetched table (r .jump) (r .jumps)) l) (sym second-is)
+          (subst (λ (s : Sources). Asked s (rowFetched table (s .jump) (s .jumps)) (rowFetched table (s .fall) (s .falls))) (sym r-is) ready))
 
       abbrev Made : Built → Sources → List ℕ → List ℕ → Type 0
       Made built s first second = BuiltAs (Row s first second) (s .b) built
@@ -322,8 +322,8 @@ module _ (plan : List ℕ) (count : ℕ) (at : Drive) (table : List Entry) (t : 
         made : BuiltAs (rowFrom plan count table (at .lengths) block) block built
         made =
             subst (λ (l : List (Key × Words)). BuiltAs l block built) made-is
-            (subst (λ (x : Sources). Made built x (fetched table (x .jump) (x .jumps)) (fetched table (x .fall) (x .falls))) r-is
-            (subst (λ (l : List ℕ). Made built r (fetched table (r .jump) (r .jumps)) l) second-is (subst (λ (l : List ℕ). Made built r l second) first-is is)))
+            (subst (λ (x : Sources). Made built x (rowFetched table (x .jump) (x .jumps)) (rowFetched table (x .fall) (x .falls))) r-is
+            (subst (λ (l : List ℕ). Made built r (rowFetched table (r .jump) (r .jumps)) l) second-is (subst (λ (l : List ℕ). Made built r l second) first-is is)))
 
         pub store-asked : (built .entries ≤ 64) × (built .from + built .entries ≤ length table)
         store-asked = store-fits built made

@@ -40,19 +40,18 @@ fn entry_of(words: &[u64], k: usize) -> Entry
     rows::entry_at(words, k)
 }
 
-// The table's entries, `entries` of them from entry `from` on, as a row; the table stays as it is.
-fn fetch(table: &mut [Entry], from: usize, entries: usize) -> [u64; 320]
-    requires { ⌜ (entries ≤ 64) × ((k : ℕ) → k < entries → from + k < length (now table)) ⌝ }
-    ensures { λ r. ⌜ (now (table .exit) ≡ now (table .entry)) × (r ≡ fetched (now (table .entry)) from entries) ⌝ }
+// The table's entries, `entries` of them from entry `from` on, into a row; the table stays as it is. How many.
+fn fetch(table: &mut [Entry], from: usize, entries: usize, row: &mut [u64]) -> usize
+    requires { ⌜ ((entries ≤ 64) × (length (now row) ≡ 320)) × ((k : ℕ) → k < entries → from + k < length (now table)) ⌝ }
+    ensures { λ r. ⌜ (now (table .exit) ≡ now (table .entry)) × (now (row .exit) ≡ fetched (now (row .entry)) (now (table .entry)) from entries) ⌝ }
 {
-    let mut words = [0; 320];
     let mut k = 0;
     while k < entries {
         let i = from + k;
-        put_words(&mut words, k, table[i]);
+        put_words(row, k, table[i]);
         k += 1;
     }
-    words
+    k
 }
 
 // The first entries of a row's words into the table, `entries` of them, from entry `from` on; how many.
@@ -138,9 +137,9 @@ fn whole_of(held: usize) -> usize
 }
 
 // The row of a block, from the rows of its targets.
-fn make(plan: &[u64], count: usize, s: Sources, first: [u64; 320], second: [u64; 320]) -> Built
-    requires { ⌜ Ready (now plan) (s .b) (tailsIn s) first second ⌝ }
-    ensures { λ r. ⌜ BuiltAs (leftFrom (now (plan .entry)) (s .b) (tailsBy (tailsIn s) first second) 1 (begunWith (now (plan .entry)) count (s .b))) (s .b) r ⌝ }
+fn make(plan: &[u64], count: usize, s: Sources, first: &[u64], second: &[u64]) -> Built
+    requires { ⌜ Ready (now plan) (s .b) (tailsIn s) (now first) (now second) ⌝ }
+    ensures { λ r. ⌜ BuiltAs (leftFrom (now (plan .entry)) (s .b) (tailsBy (tailsIn s) (now (first .entry)) (now (second .entry))) 1 (begunWith (now (plan .entry)) count (s .b))) (s .b) r ⌝ }
 {
     let b = s.b;
     let tails = Tails {
@@ -149,7 +148,7 @@ fn make(plan: &[u64], count: usize, s: Sources, first: [u64; 320], second: [u64;
     };
     let mut words = [0; 320];
     let begun = rows::begin(plan, b, count, &mut words);
-    let held = rows::build(plan, b, tails, &first, &second, &mut words, begun);
+    let held = rows::build(plan, b, tails, first, second, &mut words, begun);
     Built {
         held,
         from: 64 * b,
@@ -164,9 +163,11 @@ fn sweep_block(plan: &[u64], count: usize, at: Drive, table: &mut [Entry]) -> us
     ensures { λ r. ⌜ turnedBy (now (plan .entry)) count at (now (table .entry)) (now (table .exit)) r ⌝ }
 {
     let s = sources_of(plan, at);
-    let first = fetch(table, s.jump, s.jumps);
-    let second = fetch(table, s.fall, s.falls);
-    let built = make(plan, count, s, first, second);
+    let mut first = [0; 320];
+    fetch(table, s.jump, s.jumps, &mut first);
+    let mut second = [0; 320];
+    fetch(table, s.fall, s.falls, &mut second);
+    let built = make(plan, count, s, &first, &second);
     store(table, built.from, built.words, built.entries);
     built.held
 }
@@ -369,7 +370,8 @@ pub fn sweep(form: &[u8], table: &mut [Entry], route: &mut [u8]) -> SweepAnswer
     let plan = ready.plan;
     let blocks = allowed(ready.count, table.len(), route.len());
     let swept = sweep_rows(&plan, blocks, table);
-    let first = fetch(table, 0, lesser(blocks, 1));
+    let mut first = [0; 320];
+    fetch(table, 0, lesser(blocks, 1), &mut first);
     conclude(ready, table.len(), swept, first, route)
 }
 

@@ -16,17 +16,11 @@ begin-requires c κs = search needs
 slice-aggregate-build : tie.Need-slice-aggregate-build
 slice-aggregate-build c = search needs
 
-slice-aggregate-build-2 : tie.Need-slice-aggregate-build-2
-slice-aggregate-build-2 c = search needs
-
-slice-aggregate-build-3 : tie.Need-slice-aggregate-build-3
-slice-aggregate-build-3 c = search needs
-
 build-requires : tie.Need-build-requires
 build-requires c κs = search needs
 
-mul-t21 : tie.Need-mul-t21
-mul-t21 c = search needs
+mul-t15 : tie.Need-mul-t15
+mul-t15 c = search needs
 
 whole-of-requires : tie.Need-whole-of-requires
 whole-of-requires c κs = search needs
@@ -34,9 +28,9 @@ whole-of-requires c κs = search needs
 returns : tie.Need-returns
 returns c =
     let built = c .before .before in
-    let begun = built .before .before .before .before .before in
-    let a = begun .before .before .before .args in
-    built-as (a .plan .now) (a .s .b) (tailsBy (tailsIn (a .s)) (a .t4) (a .t5)) (begunWith (a .plan .now) (a .count) (a .s .b)) (begun .begin .last .1 .1 .1 .0) (begun .begin .result) (begun .begin .ensures)
+    let begun = built .before .before .before in
+    let a = begun .before .before .before .before .before .args in
+    built-as (a .plan .now) (a .s .b) (tailsBy (tailsIn (a .s)) (a .first .now) (a .second .now)) (begunWith (a .plan .now) (a .count) (a .s .b)) (begun .begin .last .1 .1 .1 .0) (begun .begin .result) (begun .begin .ensures)
     (built .build .last .1 .1 .1 .1 .1 .0) (built .build .result) (built .build .ensures) (built .build .kept .1 .1 .1 .1 .1 .0 ∙ begun .begin .ensures .size) (c .whole-of .result) (c .whole-of .ensures)
 
 pub make-spec : {M : Type 1} → statement M
@@ -46,9 +40,7 @@ make-spec =
     slice-aggregate-begin
     begin-requires
     slice-aggregate-build
-    slice-aggregate-build-2
-    slice-aggregate-build-3
     build-requires
-    mul-t21
+    mul-t15
     whole-of-requires
     returns)
