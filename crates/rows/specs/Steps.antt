@@ -2,7 +2,6 @@
 -- entry keeps of the longer tail is
 -- the theory's (`step-words`). Rests on theory's Plan, Edges and Backward.
 use mathlib.Core.Path.{_≡_, refl, sym, ap, ap₂, _∙_}
-use mathlib.Core.Logic.{_⊎_, inl, inr}
 use mathlib.Core.Bool.{Bool, true, false, not, cond, _||_, _&&_, and-true, and-false, and-assoc}
 use mathlib.Core.List.{List}
 use mathlib.Core.Option.{Option, none, some}
@@ -13,12 +12,12 @@ use borrow.Author.Tests.{ne-eqb}
 use lib.Bits.{bitAnd, bitOr, or-zero-r, or-lt, and-le-l}
 use lib.Pow.{pow-mono}
 use lib.Dec.{eqb, lit<}
-use lib.ListN.{length, getD}
+use lib.ListN.{getD}
 use Rattle.laws.specs.Terms.{bit}
 use Rattle.laws.specs.Tests.{eqb-swap}
 use Rattle.laws.specs.Sets.{bit-none, bit-beyond, bit-pow, bit-and, bit-or, bit-and-not, shl-one}
 use Rattle.form.specs.declared.Body.{Body}
-use Rattle.form.specs.Conflict.{Edge, Sound, block, condition, isTest, touches, opposes, denies, same, listed, conflicts}
+use Rattle.form.specs.Conflict.{Sound, block, condition, isTest, touches, opposes, denies, same, listed, conflicts}
 use Rattle.theory.specs.Row.{Key}
 use Rattle.theory.specs.SweepWords.{Words, growWords}
 use Rattle.theory.specs.Backward.{stepBack, withOwn, drops, opened}

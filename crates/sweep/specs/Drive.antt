@@ -5,13 +5,13 @@ use mathlib.Core.Path.{_≡_, refl, sym, ap, ap₂, subst, _∙_}
 use mathlib.Core.Bool.{cond}
 use mathlib.Core.List.{List, [], map}
 use mathlib.Core.Option.{Option, none, some}
-use Prim.Native.Nat.{ℕ, zero, suc, max, _+_, _*_, _-_, _^_, _≤_, _<_}
-use native.Mathlib.Nat.{zero-add, le-trans, max-zero, zero-max}
+use Prim.Native.Nat.{ℕ, suc, max, _+_, _*_, _-_, _^_, _≤_, _<_}
+use native.Mathlib.Nat.{zero-add, max-zero, zero-max}
 use native.Mathlib.Omega.{arith}
 use borrow.Author.Tests.{eqb-true, eqb-false, lt-ltb, le-ltb, ltb-true, ltb-false}
 use lib.Dec.{eqb, ltb}
 use lib.ListN.{length, getD, set, replicate, length-set, length-replicate, getD-replicate, List·getD-eq-default}
-use lib.Seq.{paste, length-paste, getD-set-same, getD-set-other}
+use lib.Seq.{paste, getD-set-same, getD-set-other}
 use Rattle.laws.specs.Terms.{Mem, heavier}
 use Rattle.laws.specs.Tests.{split}
 use Rattle.form.specs.declared.Body.{Body}
@@ -21,10 +21,10 @@ use Rattle.theory.specs.Row as theory
 use Rattle.theory.specs.Row.{Key, filled, longest, highest}
 use Rattle.theory.specs.SweepWords as words
 use Rattle.theory.specs.SweepWords.{Words, row-words, row-length}
-use Rattle.theory.specs.Range.{Range, up-past, upTo}
+use Rattle.theory.specs.Range.{Range, up-past}
 use Rattle.theory.specs.Plan.{costAt, Planned, PlanOf, costLimit}
 use Rattle.rows.specs.declared.Entry.{Entry}
-use Rattle.rows.specs.Entries.{entriesFrom, entries-length}
+use Rattle.rows.specs.Entries.{entries-length}
 use Rattle.rows.specs.Structs.{tupleOf, structAt}
 use Rattle.rows.specs.Begun.{Holds}
 use Rattle.sweep.specs.declared.Swept.{Swept}

@@ -1,23 +1,21 @@
 -- From the rows to the sweep's answer: what the functions that answer do, and that it is what is owed (`ended`). Rests
 -- on Answer, Drive, plan's Prepared and theory's WalkWords.
 use mathlib.Core.Path.{_≡_, refl, sym, ap, ap₂, subst, _∙_}
-use mathlib.Core.Logic.{_⊎_, inl, inr}
 use mathlib.Core.Bool.{Bool, true, false, cond}
 use mathlib.Core.List.{List, [], _∷_, _++_}
 use mathlib.Core.Option.{Option, none, some}
-use Prim.Native.Nat.{ℕ, zero, suc, min, _+_, _*_, _≤_, _<_}
+use Prim.Native.Nat.{ℕ, min, _+_, _*_, _≤_, _<_}
 use native.Mathlib.Nat.{zero-add}
 use native.Mathlib.Omega.{arith}
 use borrow.Author.Tests.{lt-ltb, le-ltb, eq-eqb, ne-eqb, ltb-true, ltb-false}
 use lib.Dec.{eqb, ltb}
 use lib.ListN.{length, getD, drop}
 use Rattle.laws.specs.Terms.{Mem, heavier}
-use Rattle.laws.specs.Tests.{split}
 use Rattle.form.specs.declared.Body.{Body}
 use Rattle.form.specs.Form.{bodyOf}
 use Rattle.form.specs.Conflict.{Sound, conflicts}
 use Rattle.roundtrip.specs.Sound.{sound}
-use Rattle.theory.specs.Route.{Path, Side, dearest, routeOn, boundOf, stepCost, routeBytes}
+use Rattle.theory.specs.Route.{Path, Side, dearest, routeOn, boundOf, stepCost}
 use Rattle.theory.specs.Row.{leftBy, found, kept, crowded}
 use Rattle.theory.specs.Edges.{noEdges}
 use Rattle.theory.specs.Row.{Key}
@@ -41,7 +39,7 @@ use Rattle.sweep.specs.declared.SweepAnswer.the-variants.{Routed, Refuse
 use Rattle.sweep.specs.Answer as Answer
 use Rattle.sweep.specs.Answer.{noEntry, Outcome, outcomeOf, refused, tableWith, rowsOn, routed, swept, sweepOutcome, SweepOwed}
 use Rattle.sweep.specs.Table.{entriesIn, in-length, in-mem, rowFetched, fetched-none, row-fetched-at}
-use Rattle.sweep.specs.Turn.{rowOf, range-of}
+use Rattle.sweep.specs.Turn.{rowOf}
 use Rattle.sweep.specs.Drive.{heaviestBy, longestRow, highestCrowd, sweptOf, completeFrom, SweptAs, weight-few}
 
 -- ---- what the functions that answer do

@@ -8,7 +8,7 @@ use mathlib.Core.List.{List, [], _∷_, _++_, map, append-nil}
 use mathlib.Core.Option.{Option}
 use Prim.Native.Nat.{ℕ, zero, suc, _+_, _*_, _-_, _^_, _≤_, _<_}
 use native.Mathlib.Omega.{arith}
-use borrow.Author.Tests.{eqb-true, lt-ltb, le-ltb, ltb-true, ltb-false}
+use borrow.Author.Tests.{lt-ltb, le-ltb, ltb-true, ltb-false}
 use lib.Dec.{eqb, ltb}
 use lib.ListN.{length, getD, List·getD-eq-default}
 use lib.Seq.{paste}
@@ -31,7 +31,7 @@ use Rattle.rows.specs.declared.Entry.{Entry}
 use Rattle.rows.specs.declared.Tails.{Tails}
 use Rattle.rows.specs.Entries.{entryAt, entriesFrom, betterOf, Grown, entries-length}
 use Rattle.rows.specs.Steps.{sideOf, stepKey, stepWords, step-key, step-words}
-use Rattle.rows.specs.Rows.{sourceOf, manyOf, tailsBy, pouredBy, leftFrom, left-grows, Ready}
+use Rattle.rows.specs.Rows.{tailsBy, pouredBy, leftFrom, left-grows, Ready}
 use Rattle.rows.specs.Begun.{Holds, begunWith, zeroRow, zero-length}
 use Rattle.sweep.specs.declared.Drive.{Drive}
 use Rattle.sweep.specs.declared.Sources.{Sources}

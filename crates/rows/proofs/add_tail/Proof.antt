@@ -1,7 +1,6 @@
 -- `rows::add_tail` meets its contract.
 use mathlib.Core.Path.{sym, subst}
 use mathlib.Core.List.{List}
-use native.Mathlib.Omega.{arith}
 use Rattle.theory.specs.Row.{Key}
 use Rattle.theory.specs.SweepWords.{Words}
 use Rattle.rows.specs.Entries.{entriesFrom, Grown}

@@ -2,12 +2,9 @@
 -- one; the inner loop's: with the tails from i on, it is
 -- the row with all tails by this way. The measures are the ways and the tails that are left.
 use mathlib.Core.Path.{_≡_, sym, ap, subst, _∙_}
-use mathlib.Core.List.{List}
 use Prim.Native.Nat.{ℕ, _+_, _-_, _^_, _≤_, _<_}
 use native.Mathlib.Omega.{arith}
 use lib.ListN.{length}
-use Rattle.theory.specs.Row.{Key}
-use Rattle.theory.specs.SweepWords.{Words}
 use Rattle.rows.specs.declared.Entry.{Entry}
 use Rattle.rows.specs.Entries.{entryAt, entriesFrom, Grown}
 use Rattle.rows.specs.Structs.{tupleOf}

@@ -1,17 +1,12 @@
 -- `sweep::answer` meets its contract.
 use mathlib.Core.Path.{_≡_, sym, ap, subst, _∙_}
-use mathlib.Core.List.{List, _++_}
 use Prim.Native.Nat.{ℕ, _<_, _≤_}
 use native.Mathlib.Omega.{arith}
-use lib.ListN.{drop}
 use Rattle.theory.specs.Plan.{costLimit}
 use Rattle.plan.specs.Accepted.{product}
-use Rattle.plan.specs.RouteWords.{bytesOf}
 use Rattle.rows.specs.declared.Entry.{Entry}
 use Rattle.rows.specs.Structs.{structAt}
 use Rattle.sweep.specs.Ends.{answerOf, answer-none, answer-some}
-use Rattle.sweep.specs.declared.SweepAnswer.{SweepAnswer}
-use Rattle.sweep.specs.declared.SweepAnswer.the-variants.{Routed}
 use borrow.Author.Needs.{needs}
 use Rattle.sweep.proofs.answer.Statement.{statement}
 use Rattle.sweep.proofs.answer.Tie as tie

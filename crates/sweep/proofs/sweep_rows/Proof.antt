@@ -2,8 +2,8 @@
 -- invariant is `Driven` of specs/Driven, each
 -- turn lends the table again to `sweep_block` for a lifetime of the call. The measure is the blocks to come. Rests on
 -- specs/Driven and the contracts of the four callees.
-use mathlib.Core.Path.{_≡_, refl, sym, ap, subst, _∙_}
-use Prim.Native.Nat.{ℕ, _+_, _*_, _-_, _<_, _≤_, _^_}
+use mathlib.Core.Path.{_≡_, refl, sym, ap, subst}
+use Prim.Native.Nat.{ℕ, _*_, _-_, _<_, _≤_, _^_}
 use mathlib.Core.Bool.{Bool, true, false}
 use mathlib.Core.List.{[], _∷_, List}
 use lib.ListN.{length, getD}
@@ -33,7 +33,7 @@ use denote.Laws.{Is, shows}
 use denote.Plain.{uint-makes, uint-lawful, uint-vals, uint-tells}
 use denote.Builtin.{u64, usize}
 use denote.Ref.{RefT}
-use denote.Slice.{sliceTy, sliceVal, MutSlice, ShrSlice, Room, finally, slice-vals, mut-slice-tells, shr-slice-tells, shr-slice-copy}
+use denote.Slice.{sliceTy, sliceVal, MutSlice, ShrSlice, Room, slice-vals, mut-slice-tells, shr-slice-tells, shr-slice-copy}
 use denote.Steps.{only, owned, peeks, heard, nothing}
 use denote.Struct.Laws as LL
 use denote.Enum.Laws as EL
