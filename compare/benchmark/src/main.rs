@@ -1,10 +1,13 @@
-//! How long the proved sweep takes beside a plain Rust sweep of the same method, and how long the proved conflict list takes.
+//! How long the proved sweep and full walk take beside a plain Rust sweep and walk of the same method, and how long the proved
+//! conflict list takes.
 //!
 //!     benchmark [SEED [BODIES]]
 //!
 //! Run by hand, through `compare/benchmark.sh`, which links the proved library. Bodies of 24 and of 64 blocks are made from
 //! the seed until there are enough with a longest row of 16 or more. Each is swept by both, tables cleared beforehand; the
 //! answers, routes and tables must be the same. Then each sweeps all bodies in turn, several times; the shortest time counts.
+//! The walk is measured in the same way, on bodies of few beginnings, where reading the form is much of the time, and on bodies
+//! with millions.
 
 mod bodies;
 mod plain;
@@ -14,13 +17,15 @@ use std::hint::black_box;
 use std::process::ExitCode;
 use std::time::Instant;
 
-use plain::{Entry, Refusal, Swept};
+use plain::{Entry, Refusal, Swept, Walked};
 
 /// Rounds over all bodies; the quickest counts.
 const ROUNDS: usize = 15;
 const BLOCK_COUNTS: [usize; 2] = [24, 64];
 const LEAST_KEPT: u64 = 16;
 const TABLE: usize = 64 * 64;
+/// Bodies to walk: how many blocks, from how many beginnings to how many, one in how many of the bodies swept.
+const WALKS: [(usize, u64, u64, usize); 2] = [(12, 30, 300, 1), (25, 1_000_000, 10_000_000, 50)];
 
 /// The numbers of `somniaret_sweep_table`, as `somniaret.h` has them.
 #[derive(Default)]
@@ -32,6 +37,18 @@ struct SweepNumbers {
     weight: u64,
     bound: u64,
     kept: u64,
+}
+
+/// The numbers of `somniaret_walk`.
+#[derive(Default)]
+#[repr(C)]
+struct WalkNumbers {
+    number: u64,
+    place: u64,
+    iterations: u64,
+    weight: u64,
+    bound: u64,
+    walked: u64,
 }
 
 #[derive(Default)]
@@ -51,6 +68,14 @@ extern "C" {
         form_length: usize,
         table: *mut Entry,
         table_entries: usize,
+        route: *mut u8,
+        route_length: usize,
+    );
+    fn somniaret_walk(
+        answer: *mut WalkNumbers,
+        form: *const u8,
+        form_length: usize,
+        budget: u32,
         route: *mut u8,
         route_length: usize,
     );
@@ -86,6 +111,18 @@ fn proved(form: &[u8], table: &mut [Entry], route: &mut [u8]) -> Result<Swept, R
     }
 }
 
+type Walk = fn(&[u8], u32, &mut [u8]) -> Result<Walked, Refusal>;
+
+fn proved_walk(form: &[u8], budget: u32, route: &mut [u8]) -> Result<Walked, Refusal> {
+    let mut answer = WalkNumbers::default();
+    unsafe { somniaret_walk(&mut answer, form.as_ptr(), form.len(), budget, route.as_mut_ptr(), route.len()) };
+    let WalkNumbers { number, place, iterations, weight, bound, walked } = answer;
+    match number {
+        0 => Ok(Walked { iterations, weight, bound, walked }),
+        _ => Err(Refusal { number, place }),
+    }
+}
+
 /// The lent memory of a sweep, cleared before each.
 struct Lent {
     table: Vec<Entry>,
@@ -114,6 +151,50 @@ fn time(sweep: Sweep, forms: &[Vec<u8>], lent: &mut Lent) -> f64 {
         black_box((&answer, &lent.table, &lent.route));
     }
     nanoseconds as f64 / 1_000.0 / forms.len() as f64
+}
+
+/// Microseconds a body.
+fn time_walk(walk: Walk, forms: &[Vec<u8>]) -> f64 {
+    let mut route = [0; 64];
+    let began = Instant::now();
+    for form in forms {
+        black_box(&walk(black_box(form), u32::MAX, &mut route));
+        black_box(&route);
+    }
+    began.elapsed().as_nanos() as f64 / 1_000.0 / forms.len() as f64
+}
+
+/// The walk of bodies with so many blocks and beginnings; false where the two differ.
+fn walks(seed: u64, block_count: usize, fewest: u64, most: u64, bodies: usize) -> bool {
+    let (mut forms, mut beginnings, mut made) = (Vec::new(), 0, 0);
+    while forms.len() < bodies {
+        made += 1;
+        let form = bodies::body(block_count, seed ^ (block_count as u64) << 32, made);
+        let (mut one, mut other) = ([0; 64], [0; 64]);
+        let by_proved = proved_walk(&form, most as u32, &mut one);
+        let by_plain = plain::walk(&form, most as u32, &mut other);
+        if by_proved != by_plain || one != other {
+            println!("body {made} of {block_count} blocks: {by_proved:?} proved, {by_plain:?} plain, or the route differs");
+            return false;
+        }
+        if let Ok(answer) = by_proved {
+            if answer.walked >= fewest {
+                beginnings += answer.walked;
+                forms.push(form);
+            }
+        }
+    }
+    let times: Vec<(f64, f64)> =
+        (0..ROUNDS).map(|_| (time_walk(proved_walk, &forms), time_walk(plain::walk, &forms))).collect();
+    let (by_proved, by_plain) = (least(times.iter().map(|t| t.0)), least(times.iter().map(|t| t.1)));
+    let beginnings = beginnings as f64 / bodies as f64;
+    println!(
+        "{bodies} bodies of {block_count} blocks to walk (seed {seed}, {made} made), {beginnings:.0} beginnings on average: \
+         proved {by_proved:.2} µs, plain {by_plain:.2} µs, ratio {:.2}, {:.0} million beginnings a second",
+        by_proved / by_plain,
+        beginnings / by_proved
+    );
+    true
 }
 
 fn time_list(forms: &[Vec<u8>], out: &mut [u8]) -> (f64, f64) {
@@ -185,6 +266,11 @@ fn main() -> ExitCode {
             least(lists.iter().map(|t| t.0)),
             least(lists.iter().map(|t| t.1))
         );
+    }
+    for (block_count, fewest, most, share) in WALKS {
+        if !walks(seed, block_count, fewest, most, bodies.div_ceil(share)) {
+            return ExitCode::FAILURE;
+        }
     }
     ExitCode::SUCCESS
 }

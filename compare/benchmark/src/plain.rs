@@ -1,5 +1,6 @@
-//! A plain Rust sweep of the same method as the proved one, written for speed and proved by nothing: the form is read once,
-//! the sets of edges are worked out as words, and rows are built from the last block down into the lent table.
+//! A plain Rust sweep and a plain Rust full walk of the same method as the proved ones, written for speed and proved by nothing:
+//! the form is read once and the sets of edges are worked out as words. The sweep builds rows from the last block down into
+//! the lent table; the walk calls itself from block to block.
 
 const MOST_BLOCKS: usize = 64;
 const MOST_EFFECTS: usize = 256;
@@ -452,10 +453,104 @@ pub fn sweep(form: &[u8], table: &mut [Entry], route: &mut [u8]) -> Result<Swept
         return refuse(43, 0);
     }
     let best = table[0];
-    for (b, byte) in route[..block_count].iter_mut().enumerate() {
-        *byte = (best.jumped >> b & 1) as u8 + 2 * (best.fallen >> b & 1) as u8;
-    }
-    route[block_count - 1] = 3;
+    write_route(best.jumped, best.fallen, &mut route[..block_count]);
     let kept = lengths.into_iter().max().unwrap_or(0) as u64;
     Ok(Swept { iterations, weight: best.weight, bound: iterations * best.weight, kept })
+}
+
+#[derive(Clone, Copy, Debug, PartialEq, Eq)]
+pub struct Walked {
+    pub iterations: u64,
+    pub weight: u64,
+    pub bound: u64,
+    pub walked: u64,
+}
+
+/// Words a block, and the target of a way that is not there.
+const WORDS: usize = 16;
+const NO_WAY: u64 = 64;
+
+/// What the walk needs of each block, as the proved walk has it: its targets, its sets of edges and its cost.
+fn words_of(body: &Body) -> [[u64; WORDS]; MOST_BLOCKS] {
+    let plan = plan_of(body);
+    let mut words = [[0; WORDS]; MOST_BLOCKS];
+    for (b, row) in words.iter_mut().enumerate().take(body.block_count) {
+        let (block, plan) = (&body.blocks[b], &plan[b]);
+        row[1] = if block.ending >= 1 { block.jump as u64 } else { NO_WAY };
+        row[2] = if block.ending >= 2 { block.fall as u64 } else { NO_WAY };
+        row[3] = plan.touched;
+        row[4..6].copy_from_slice(&plan.denied);
+        row[6..8].copy_from_slice(&plan.against[0]);
+        row[8..10].copy_from_slice(&plan.against[1]);
+        row[12] = block.cost as u64;
+    }
+    words
+}
+
+/// What the walk works on, and what it has found so far.
+struct Walk<'a> {
+    words: &'a [[u64; WORDS]; MOST_BLOCKS],
+    block_count: usize,
+    budget: u64,
+    walked: u64,
+    any: bool,
+    weight: u64,
+    jumped: u64,
+    fallen: u64,
+}
+
+impl Walk<'_> {
+    /// From block b on, where these edges are banned and these blocks were left by jump and by fall.
+    fn from(&mut self, b: usize, jumps: u64, falls: u64, weight: u64, jumped: u64, fallen: u64) {
+        self.walked += 1;
+        let words = &self.words[b];
+        let weight = weight + words[12];
+        if b + 1 == self.block_count {
+            if !self.any || weight > self.weight {
+                (self.any, self.weight, self.jumped, self.fallen) = (true, weight, jumped, fallen);
+            }
+            return;
+        }
+        let jumps = jumps & !words[3] | words[4];
+        let falls = falls & !words[3] | words[5];
+        if words[1] != NO_WAY && jumps >> b & 1 == 0 && self.walked <= self.budget {
+            self.from(words[1] as usize, jumps | words[6], falls | words[7], weight, jumped | 1 << b, fallen);
+        }
+        if words[2] != NO_WAY && falls >> b & 1 == 0 && self.walked <= self.budget {
+            self.from(words[2] as usize, jumps | words[8], falls | words[9], weight, jumped, fallen | 1 << b);
+        }
+    }
+}
+
+pub fn walk(form: &[u8], budget: u32, route: &mut [u8]) -> Result<Walked, Refusal> {
+    let body = read(form)?;
+    let iterations = count(body.initial, body.step, body.relation, body.limit);
+    if iterations == 0 {
+        return refuse(20, 0);
+    }
+    let block_count = body.block_count;
+    if route.len() < block_count {
+        return refuse(42, block_count);
+    }
+    let words = words_of(&body);
+    let budget = budget as u64;
+    let (walked, any, weight, jumped, fallen) = (0, false, 0, 0, 0);
+    let mut walk = Walk { words: &words, block_count, budget, walked, any, weight, jumped, fallen };
+    walk.from(0, 0, 0, 0, 0, 0);
+    if walk.walked > budget {
+        return refuse(41, budget as usize);
+    }
+    if !walk.any {
+        return refuse(43, 0);
+    }
+    write_route(walk.jumped, walk.fallen, &mut route[..block_count]);
+    Ok(Walked { iterations, weight: walk.weight, bound: iterations * walk.weight, walked: walk.walked })
+}
+
+/// 1 where the block is left by jump or go, 2 by fall, 3 the last block.
+fn write_route(jumped: u64, fallen: u64, route: &mut [u8]) {
+    for (b, byte) in route.iter_mut().enumerate() {
+        *byte = (jumped >> b & 1) as u8 + 2 * (fallen >> b & 1) as u8;
+    }
+    route[route.len() - 1] = 3;
 }

@@ -1,12 +1,12 @@
-// Bodies put together block by block. A block is told how many effects follow it; the writer sees whether they add up. What finds no place is left out,
-// which the writer sees too.
+// Bodies put together block by block. A block is told how many effects follow it; the writer sees whether they add up.
+// What finds no place is left out, which the writer sees too.
 use form::Block;
 use form::Body;
 use form::Counter;
 use form::Effect;
 
 // A body with its counter and nothing else.
-pub fn counted(initial: i32, step: i32, relation: u8, limit: i32) -> Body {
+pub(crate) fn counted(initial: i32, step: i32, relation: u8, limit: i32) -> Body {
     let counter = Counter {
         initial,
         step,
@@ -82,7 +82,7 @@ fn with_effect(body: Body, effect: Effect) -> Body {
 }
 
 // The body with other counts than it was put together with.
-pub fn with_counts(body: Body, count: usize, total: usize) -> Body {
+pub(crate) fn with_counts(body: Body, count: usize, total: usize) -> Body {
     let counter = body.counter;
     let blocks = body.blocks;
     let effects = body.effects;
@@ -96,7 +96,7 @@ pub fn with_counts(body: Body, count: usize, total: usize) -> Body {
 }
 
 // The last block.
-pub fn end(body: Body, cost: u32) -> Body {
+pub(crate) fn end(body: Body, cost: u32) -> Body {
     let block = Block {
         cost,
         ending: 0,
@@ -110,7 +110,7 @@ pub fn end(body: Body, cost: u32) -> Body {
     with_block(body, block)
 }
 
-pub fn go(body: Body, cost: u32, effects: usize, jump: u8) -> Body {
+pub(crate) fn go(body: Body, cost: u32, effects: usize, jump: u8) -> Body {
     let block = Block {
         cost,
         ending: 1,
@@ -125,7 +125,7 @@ pub fn go(body: Body, cost: u32, effects: usize, jump: u8) -> Body {
 }
 
 // An open branch.
-pub fn open(body: Body, cost: u32, effects: usize, jump: u8, fall: u8) -> Body {
+pub(crate) fn open(body: Body, cost: u32, effects: usize, jump: u8, fall: u8) -> Body {
     let block = Block {
         cost,
         ending: 2,
@@ -140,7 +140,7 @@ pub fn open(body: Body, cost: u32, effects: usize, jump: u8, fall: u8) -> Body {
 }
 
 // A test of variable 0 or another.
-pub fn test(
+pub(crate) fn test(
     body: Body,
     cost: u32,
     effects: usize,
@@ -164,7 +164,7 @@ pub fn test(
 }
 
 // An effect: the variable is this constant.
-pub fn set(body: Body, variable: u8, constant: i32) -> Body {
+pub(crate) fn set(body: Body, variable: u8, constant: i32) -> Body {
     let effect = Effect {
         variable,
         how: 1,
@@ -174,7 +174,7 @@ pub fn set(body: Body, variable: u8, constant: i32) -> Body {
 }
 
 // An effect: the variable's value is unknown.
-pub fn unknown(body: Body, variable: u8) -> Body {
+pub(crate) fn unknown(body: Body, variable: u8) -> Body {
     let effect = Effect {
         variable,
         how: 0,

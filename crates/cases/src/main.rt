@@ -1,5 +1,6 @@
-// The trainer's cases of document 01 that are not marked, and 'Where trainees go wrong', a case each in which the wrong answer would be printed otherwise.
-// A line for each answer, with all its numbers; last the writer's refusals, one by one and in their order. The marked cases are proved (crate marked).
+// The trainer's cases of document 01 that are not marked, and 'Where trainees go wrong', a case each in which the wrong
+// answer would be printed otherwise. A line for each answer, with all its numbers; last the writer's refusals, one by
+// one and in their order. The marked cases are proved (crate marked).
 mod bodies;
 mod show;
 

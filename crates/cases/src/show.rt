@@ -6,7 +6,7 @@ use listing::Listed;
 use sweep::SweepAnswer;
 use walk::WalkAnswer;
 
-pub fn say(text: &[u8]) {
+pub(crate) fn say(text: &[u8]) {
     io::write_all(1, text);
 }
 
@@ -64,7 +64,7 @@ fn route(bytes: [u8; 64]) {
     say(b"\n");
 }
 
-pub fn count(name: &[u8], initial: i32, step: i32, relation: u8, limit: i32) {
+pub(crate) fn count(name: &[u8], initial: i32, step: i32, relation: u8, limit: i32) {
     say(name);
     match counter::count(initial, step, relation, limit) {
         Counted::Iterations(k) => {
@@ -75,7 +75,7 @@ pub fn count(name: &[u8], initial: i32, step: i32, relation: u8, limit: i32) {
     }
 }
 
-pub fn pair(name: &[u8], relation1: u8, constant1: i32, relation2: u8, constant2: i32) {
+pub(crate) fn pair(name: &[u8], relation1: u8, constant1: i32, relation2: u8, constant2: i32) {
     say(name);
     if pair::conflicting(relation1, constant1, relation2, constant2) {
         say(b" conflict\n");
@@ -84,7 +84,7 @@ pub fn pair(name: &[u8], relation1: u8, constant1: i32, relation2: u8, constant2
     }
 }
 
-pub fn list(form: &[u8]) {
+pub(crate) fn list(form: &[u8]) {
     say(b"  list:");
     let mut out = [0u8; 64];
     match listing::conflicts(form, &mut out) {
@@ -93,7 +93,7 @@ pub fn list(form: &[u8]) {
     }
 }
 
-pub fn sweep(form: &[u8]) {
+pub(crate) fn sweep(form: &[u8]) {
     say(b"  sweep:");
     let mut bytes = [0u8; 64];
     match sweep::sweep_own(form, &mut bytes) {
@@ -113,7 +113,7 @@ pub fn sweep(form: &[u8]) {
     }
 }
 
-pub fn walk(form: &[u8], budget: u32) {
+pub(crate) fn walk(form: &[u8], budget: u32) {
     value(b"  walk, budget ", budget as u64);
     say(b":");
     let mut bytes = [0u8; 64];
@@ -135,7 +135,7 @@ pub fn walk(form: &[u8], budget: u32) {
 }
 
 // The body's form, laid out in the lent bytes; how many bytes it has, or none where the writer refuses.
-pub fn form(body: form::Body, out: &mut [u8; 3665]) -> usize
+pub(crate) fn form(body: form::Body, out: &mut [u8; 3665]) -> usize
     ensures { λ r. ⌜ Counts r (now (out .exit)) ⌝ }
 {
     say(b"  form:");
@@ -153,14 +153,14 @@ pub fn form(body: form::Body, out: &mut [u8; 3665]) -> usize
 }
 
 // A case of the writer, lent enough bytes.
-pub fn written(name: &[u8], body: form::Body) {
+pub(crate) fn written(name: &[u8], body: form::Body) {
     say(name);
     let mut out = [0u8; 3665];
     form(body, &mut out);
 }
 
 // A case of the writer, lent 172 bytes.
-pub fn written_short(name: &[u8], body: form::Body) {
+pub(crate) fn written_short(name: &[u8], body: form::Body) {
     say(name);
     say(b"  form:");
     let mut out = [0u8; 172];
@@ -174,7 +174,7 @@ pub fn written_short(name: &[u8], body: form::Body) {
 }
 
 // A case: what is said of it, its form, list, sweep and walk.
-pub fn body(name: &[u8], body: form::Body) {
+pub(crate) fn body(name: &[u8], body: form::Body) {
     say(name);
     let mut out = [0u8; 3665];
     let n = form(body, &mut out);

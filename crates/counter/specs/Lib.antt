@@ -1,3 +1,4 @@
 -- The definitions that the contracts of the counter cite.
 pub mod Answer
 pub mod Uniqueness
+pub mod Counts

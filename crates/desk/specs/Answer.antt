@@ -1,4 +1,5 @@
--- What the exported calls return. Trusted: each number of an answer, from the answers of the layers below; 0 as number is no refusal.
+-- What the exported calls return. Trusted: each number of an answer, from the answers of the layers below; 0 as number
+-- is no refusal.
 use mathlib.Core.List.{List}
 use Prim.Native.Nat.{ℕ, _/_}
 use lib.ListN.{length}
@@ -32,10 +33,12 @@ writtenAnswer w = formAnswer (writtenNumber w) (writtenPlace w)
 
 -- The form read, and its body written back
 abbrev pub rewriteAnswer : List ℕ → ℕ → FormAnswer
-rewriteAnswer form room = when (accepted (judge form)) (writtenAnswer (written (bodyOf form) room)) (verdictAnswer (judge form))
+rewriteAnswer form room =
+    when (accepted (judge form)) (writtenAnswer (written (bodyOf form) room)) (verdictAnswer (judge form))
 
 abbrev pub rewriteHeld : List ℕ → List ℕ → List ℕ
-rewriteHeld form out = when (accepted (judge form)) (heldAfter (written (bodyOf form) (length out)) (lay (bodyOf form)) out) out
+rewriteHeld form out =
+    when (accepted (judge form)) (heldAfter (written (bodyOf form) (length out)) (lay (bodyOf form)) out) out
 
 -- The counter's answer, as the counter's own definition has it
 abbrev pub countValues : CountAnswer → Counter.Values
@@ -85,4 +88,5 @@ sweptOutcome answer route table = record { values = sweepValues answer; route = 
 
 -- The sweep over a table of 1,536 zero entries of its own, whatever that holds afterwards
 abbrev pub OwnSweepOwed : (form route : List ℕ) → SweepNumbers → List ℕ → Type 0
-OwnSweepOwed form route answer held = (table : List Entry) × Sweep.SweepOwed form route Sweep.ownTable (sweptOutcome answer held table)
+OwnSweepOwed form route answer held =
+    (table : List Entry) × Sweep.SweepOwed form route Sweep.ownTable (sweptOutcome answer held table)

@@ -1,6 +1,6 @@
--- The answers of the reader and the writer. Trusted: for each answer that is an enum, document 01's number and values for each of its cases, and
--- what each call answers. A refusal's number is as tabled; 0 stands for none. Rests on Form.
-use mathlib.Core.Bool.{Bool, true, false, not}
+-- The answers of the reader and the writer. Trusted: for each answer that is an enum, document 01's number and values
+-- for each of its cases, and what each call answers. A refusal's number is as tabled; 0 stands for none. Rests on Form.
+use mathlib.Core.Bool.{Bool, true, false}
 use mathlib.Core.List.{List, _++_}
 use mathlib.Core.Path.{_≡_}
 use Prim.Native.Nat.{ℕ}
@@ -43,6 +43,10 @@ Judged s verdict = (verdict ≡ judge s) × (said verdict ≡ said (judge s))
 abbrev pub reading : List ℕ → Reading
 reading s = record { verdict = judge s; body = when (accepted (judge s)) (bodyOf s) zeroBody }
 
+-- What reading owes: the case with its body, and the case's numbers
+abbrev pub ReadAs : List ℕ → Reading → Type 0
+ReadAs s answer = (answer ≡ reading s) × (said (answer .verdict) ≡ said (judge s))
+
 -- ---- the writer
 
 -- Its answer in document 01's numbers: on success the place is 0, and beside it stands how many bytes were written
@@ -67,7 +71,8 @@ abbrev pub asJudged : Verdict → Written → Written
 asJudged Accepted rest = rest
 asJudged (Refused number place) rest = Unwritten number place
 
--- The writer: 14 for its counts, then what the reader says of the laid-out bytes, then 42 with the bytes needed; else how many bytes are written
+-- The writer: 14 for its counts, then what the reader says of the laid-out bytes, then 42 with the bytes needed; else
+-- how many bytes are written
 abbrev pub written : Body → ℕ → Written
 written body room =
     when (countsFit body)

@@ -1,12 +1,12 @@
--- The order form of document 01. Trusted: what judging any bytes answers, what body an accepted form is, and what bytes a body is laid
--- out as. A form is the list of its bytes. Offsets stand
--- where a record is read (counterAt, blockAt, effectAt) and in the order in which it is laid out. Rests on numbers, lists and Relation's eqZ.
+-- The order form of document 01. Trusted: what judging any bytes answers, what body an accepted form is, and what bytes
+-- a body is laid out as. A form is the list of its bytes. Offsets stand where a record is read (counterAt, blockAt,
+-- effectAt) and in the order in which it is laid out. Rests on numbers, lists and Relation's eqZ.
 use mathlib.Core.Bool.{Bool, true, false, _||_, _&&_, not}
 use mathlib.Core.List.{List, [], _∷_, _++_}
 use Prim.Native.Nat.{ℕ, zero, suc, _+_, _-_, _*_, _/_, _%_}
 use lib.Dec.{ltb, leb, eqb}
 use lib.IntN.{ℤ, pos}
-use lib.ListN.{length, getD, take, drop, replicate}
+use lib.ListN.{length, getD, take, drop}
 use mir.Syntax.{w32}
 use mir.Val.{toZ, ofZ}
 use Rattle.form.specs.declared.Kind.{Kind}
@@ -51,7 +51,8 @@ blockRole = 2
 abbrev pub effectRole : ℕ
 effectRole = 3
 
--- The table of kinds: number, length of the whole record, role. (Any other number is refused; to go on, its head is passed over.)
+-- The table of kinds: number, length of the whole record, role. (Any other number is refused; to go on, its head is
+-- passed over.)
 unfoldable pub kindOf : ℕ → Kind
 kindOf number =
     when (eqb number 1) (record { length = 17; role = counterRole })
@@ -84,7 +85,12 @@ isEffect s at = eqb (kindAt s at .role) effectRole
 
 abbrev pub counterAt : List ℕ → ℕ → Counter
 counterAt s at =
-    record { initial = signed4 s (at + 4); step = signed4 s (at + 8); relation = byteAt s (at + 12); limit = signed4 s (at + 13) }
+    record {
+      initial = signed4 s (at + 4);
+      step = signed4 s (at + 8);
+      relation = byteAt s (at + 12);
+      limit = signed4 s (at + 13);
+    }
 
 -- with the number of its effects, which follow it
 abbrev pub blockAt : List ℕ → ℕ → ℕ → Block
@@ -103,8 +109,8 @@ blockAt s at own =
 abbrev pub effectAt : List ℕ → ℕ → Effect
 effectAt s at = record { variable = byteAt s (at + 4); how = byteAt s (at + 5); constant = signed4 s (at + 6) }
 
--- The places where the records from place `at` on start: each starts where the one before it ends. Every record has a byte, so there
--- are no more than bytes.
+-- The places where the records from place `at` on start: each starts where the one before it ends. Every record has a
+-- byte, so there are no more than bytes.
 unfoldable pub startsFor : ℕ → List ℕ → ℕ → List ℕ
 startsFor zero s at = []
 startsFor (suc most) s at =
@@ -161,7 +167,7 @@ outOfPlace s at b =
 unfoldable pub overLimit : List ℕ → ℕ → ℕ → ℕ → Bool
 overLimit s at b e = (isBlock s at && leb 64 b) || (isEffect s at && leb 256 e)
 
--- 15 of each role
+-- 15 of each role. (A block's number of effects plays no part in judging; it is told as 0 here.)
 unfoldable pub badField : List ℕ → ℕ → Bool
 badField s at =
     (isCounter s at && badCounter (counterAt s at))
@@ -235,7 +241,16 @@ abbrev pub zeroCounter : Counter
 zeroCounter = record { initial = pos 0; step = pos 0; relation = 0; limit = pos 0 }
 
 abbrev pub zeroBlock : Block
-zeroBlock = record { cost = 0; ending = 0; jump = 0; fall = 0; variable = 0; relation = 0; constant = pos 0; effects = 0 }
+zeroBlock = record {
+  cost = 0;
+  ending = 0;
+  jump = 0;
+  fall = 0;
+  variable = 0;
+  relation = 0;
+  constant = pos 0;
+  effects = 0;
+}
 
 abbrev pub zeroEffect : Effect
 zeroEffect = record { variable = 0; how = 0; constant = pos 0 }
@@ -281,7 +296,8 @@ counterBytes c =
 
 abbrev pub blockBytes : Block → List ℕ
 blockBytes k =
-    head 2 (bytes4 (k .cost) (k .ending ∷ k .jump ∷ k .fall ∷ k .variable ∷ k .relation ∷ bytes4 (ofZ w32 (k .constant)) []))
+    head 2 (bytes4 (k .cost)
+    (k .ending ∷ k .jump ∷ k .fall ∷ k .variable ∷ k .relation ∷ bytes4 (ofZ w32 (k .constant)) []))
 
 abbrev pub effectBytes : Effect → List ℕ
 effectBytes e = head 3 (e .variable ∷ e .how ∷ bytes4 (ofZ w32 (e .constant)) [])
@@ -304,7 +320,8 @@ sumOwn [] = 0
 sumOwn (k ∷ ks) = k .effects + sumOwn ks
 
 unfoldable pub countsFit : Body → Bool
-countsFit body = (leb (body .count) 64 && leb (body .total) 256) && eqb (sumOwn (take (body .count) (body .blocks))) (body .total)
+countsFit body =
+    (leb (body .count) 64 && leb (body .total) 256) && eqb (sumOwn (take (body .count) (body .blocks))) (body .total)
 
 -- The same body up to its counts: what stands past them is zero
 unfoldable pub upToCounts : Body → Body

@@ -2,17 +2,18 @@
 use mathlib.Core.Bool.{Bool, true, false, _&&_, and-false, false≢true}
 use mathlib.Core.List.{List, [], _∷_, _++_, append-assoc, append-nil}
 use mathlib.Core.Path.{_≡_, refl, ap, sym, _∙_}
-use Prim.Native.Nat.{ℕ, zero, suc, _+_, _*_, _≤_, _<_}
-use native.Mathlib.Nat.{zero-add, le-refl}
+use Prim.Native.Nat.{ℕ, zero, suc, _+_, _≤_, _<_}
+use native.Mathlib.Nat.{le-refl}
 use native.Mathlib.Omega.{arith}
-use borrow.Author.Tests.{lt-leb, le-leb, eq-eqb, ne-eqb, leb-true, eqb-true, eqb-false}
+use borrow.Author.Tests.{lt-leb, le-leb, eq-eqb, ne-eqb, leb-true, eqb-true}
 use lib.Dec.{leb, eqb}
 use lib.ListN.{length, getD, take, drop}
 use lib.Seq.{paste, take-paste, take-length, drop-cons, drop-drop}
 use Rattle.form.specs.declared.Block.{Block}
 use Rattle.form.specs.declared.Effect.{Effect}
 use Rattle.form.specs.declared.Body.{Body}
-use Rattle.form.specs.Form.{zeroBlock, zeroEffect, blockBytes, effectBytes, layEffects, layBlocks, lay, sumOwn, countsFit}
+use Rattle.form.specs.Form.{zeroBlock, zeroEffect, blockBytes, effectBytes, layEffects, layBlocks, sumOwn}
+use Rattle.form.specs.Form.{countsFit}
 
 -- The counts.
 
@@ -62,7 +63,8 @@ lay-more buf bytes done to h e =
 
 -- one effect more
 pub effects-more :
-    (l : List Effect) (j : ℕ) → j < length l → layEffects (take (suc j) l) ≡ layEffects (take j l) ++ effectBytes (getD l j zeroEffect)
+    (l : List Effect) (j : ℕ) → j < length l
+    → layEffects (take (suc j) l) ≡ layEffects (take j l) ++ effectBytes (getD l j zeroEffect)
 unfolding layEffects
 effects-more [] j h = absurd (omega arith)
 effects-more (e ∷ l) zero h = refl
@@ -81,12 +83,15 @@ pub effects-laid :
 effects-laid buf bytes before to l j h more e b =
     lay-more buf bytes (before ++ layEffects (take j l)) to h e
     ∙ (append-assoc before (layEffects (take j l)) bytes
-    ∙ ap (λ (r : List ℕ). before ++ r) (ap (λ (r : List ℕ). layEffects (take j l) ++ r) b ∙ sym (effects-more l j more)))
+    ∙ ap (λ (r : List ℕ). before ++ r) (ap (λ (r : List ℕ). layEffects (take j l) ++ r) b
+    ∙ sym (effects-more l j more)))
 
 -- a record's bytes, shown to be `bytes′`, pasted, and then its own effects after them
 pub block-laid :
-    (buf pasted buf′ bytes bytes′ own : List ℕ) (at after r : ℕ) → at ≤ length buf → bytes ≡ bytes′ → after ≡ at + length bytes
-    → pasted ≡ paste buf at bytes (length bytes) → take r buf′ ≡ take after pasted ++ own → take r buf′ ≡ take at buf ++ (bytes′ ++ own)
+    (buf pasted buf′ bytes bytes′ own : List ℕ) (at after r : ℕ) → at ≤ length buf → bytes ≡ bytes′
+    → after ≡ at + length bytes
+    → pasted ≡ paste buf at bytes (length bytes) → take r buf′ ≡ take after pasted ++ own
+    → take r buf′ ≡ take at buf ++ (bytes′ ++ own)
 block-laid buf pasted buf′ bytes bytes′ own at after r h b f p e =
     e
     ∙ ((λ i. take (f i) (p i) ++ own)
@@ -96,7 +101,8 @@ block-laid buf pasted buf′ bytes bytes′ own at after r h b f p e =
 -- A body's blocks: those laid out so far, and the rest of the whole.
 blocks-step :
     (ks : List Block) (k : ℕ) (es : List Effect) → k < length ks → (b : Block) → getD ks k zeroBlock ≡ b
-    → layBlocks (drop k ks) es ≡ blockBytes b ++ (layEffects (take (b .effects) es) ++ layBlocks (drop (suc k) ks) (drop (b .effects) es))
+    → layBlocks (drop k ks) es
+    ≡ blockBytes b ++ (layEffects (take (b .effects) es) ++ layBlocks (drop (suc k) ks) (drop (b .effects) es))
 unfolding layBlocks
 blocks-step ks k es h b e = rw (drop-cons ks k zeroBlock h, e)
 
@@ -110,7 +116,8 @@ blocks-laid ks k es e h b g before after whole w a =
     let rest = layBlocks (drop (suc k) ks) (drop (b .effects) (drop e es)) in
     (λ i. a i ++ layBlocks (drop (suc k) ks) (sym (drop-drop (b .effects) e es) i))
     ∙ (append-assoc before (blockBytes b ++ own) rest
-    ∙ (ap (λ (l : List ℕ). before ++ l) (append-assoc (blockBytes b) own rest ∙ sym (blocks-step ks k (drop e es) h b g)) ∙ w))
+    ∙ (ap (λ (l : List ℕ). before ++ l) (append-assoc (blockBytes b) own rest
+    ∙ sym (blocks-step ks k (drop e es) h b g)) ∙ w))
 
 -- at the end no block is left
 pub blocks-end :
@@ -127,12 +134,17 @@ sum-end n k e ks = ap sumOwn (none-left n k e ks)
 -- what the counts of a body that fits say
 pub counts-known : (body : Body) → countsFit body ≡ true → (body .count ≤ 64) × (sumOwn (blocksCounted body) ≤ 256)
 unfolding countsFit
-counts-known body h = go (leb (body .count) 64) (leb (body .total) 256) (eqb (sumOwn (blocksCounted body)) (body .total)) refl refl refl h
+counts-known body h = go (leb (body .count) 64) (leb (body .total) 256)
+    (eqb (sumOwn (blocksCounted body)) (body .total)) refl refl refl h
   where
     go :
-        (a b c : Bool) → leb (body .count) 64 ≡ a → leb (body .total) 256 ≡ b → eqb (sumOwn (blocksCounted body)) (body .total) ≡ c
+        (a b c : Bool) → leb (body .count) 64 ≡ a → leb (body .total) 256 ≡ b
+        → eqb (sumOwn (blocksCounted body)) (body .total) ≡ c
         → ((a && b) && c) ≡ true → (body .count ≤ 64) × (sumOwn (blocksCounted body) ≤ 256)
-    go true true true p q r t = (leb-true _ _ p, omega (arith, leb-true (body .total) 256 q, eqb-true (sumOwn (blocksCounted body)) (body .total) r))
+    go true true true p q r t = (
+      leb-true _ _ p,
+      omega (arith, leb-true (body .total) 256 q, eqb-true (sumOwn (blocksCounted body)) (body .total) r),
+    )
     go true true false p q r t = absurd (false≢true t)
     go true false c p q r t = absurd (false≢true t)
     go false b c p q r t = absurd (false≢true t)

@@ -1,5 +1,5 @@
--- The trusted definitions of the lower layer (Form, Answer, Relation, Counter, Conflict), and the laws that its proofs share (Records,
--- Filling, Laying, Writing).
+-- The trusted definitions of the lower layer (Form, Answer, Relation, Counter, Conflict), and the laws that its proofs
+-- share (Records, Filling, Laying, Writing).
 pub mod Form
 pub mod Answer
 pub mod Relation

@@ -1,5 +1,5 @@
--- Laws of the records of a form: from each place the records are the one that starts there and those after it, up to the end.
--- Rests on Form alone.
+-- Laws of the records of a form: from each place the records are the one that starts there and those after it, up to
+-- the end. Rests on Form alone.
 use mathlib.Core.Bool.{Bool, true, false}
 use mathlib.Core.List.{List, [], _∷_}
 use mathlib.Core.Path.{_≡_, refl, ap, sym, _∙_}
@@ -11,7 +11,9 @@ use lib.ListN.{length}
 use Rattle.form.specs.declared.Kind.{Kind}
 use Rattle.form.specs.declared.Verdict.{Verdict}
 use Rattle.form.specs.declared.Verdict.the-variants.{Refused}
-use Rattle.form.specs.Form.{when, kindNumber, unknown, counterRole, blockRole, effectRole, kindOf, kindAt, isBlock, isEffect, oneIf, judged, startsFor, recordsFrom, recordFault, endFault, judgeEnds, judgeRecords, ownEffects}
+use Rattle.form.specs.Form.{when, kindNumber, unknown, counterRole, blockRole, effectRole, kindOf, kindAt}
+use Rattle.form.specs.Form.{isBlock, isEffect, oneIf, judged, startsFor, recordsFrom, recordFault, endFault}
+use Rattle.form.specs.Form.{judgeEnds, judgeRecords, ownEffects}
 
 -- where the record at `at` ends
 abbrev pub next : List ℕ → ℕ → ℕ
@@ -44,7 +46,8 @@ unfolding startsFor
 starts-end zero s at h = refl
 starts-end (suc most) s at h = rw (le-ltb at (length s) h)
 
-starts-step : (most : ℕ) (s : List ℕ) (at : ℕ) → at < length s → startsFor (suc most) s at ≡ at ∷ startsFor most s (next s at)
+starts-step : (most : ℕ) (s : List ℕ) (at : ℕ) → at < length s
+    → startsFor (suc most) s at ≡ at ∷ startsFor most s (next s at)
 unfolding startsFor
 starts-step most s at h = rw (lt-ltb at (length s) h)
 
@@ -63,7 +66,8 @@ starts-enough (suc f) (suc g) s at p q =
         (b : Bool) → ltb at (length s) ≡ b → startsFor f s (next s at) ≡ startsFor g s (next s at)
         → startsFor (suc f) s at ≡ startsFor (suc g) s at
     go true e ih =
-        starts-step f s at (ltb-true _ _ e) ∙ (ap (λ (l : List ℕ). at ∷ l) ih ∙ sym (starts-step g s at (ltb-true _ _ e)))
+        starts-step f s at (ltb-true _ _ e)
+        ∙ (ap (λ (l : List ℕ). at ∷ l) ih ∙ sym (starts-step g s at (ltb-true _ _ e)))
     go false e ih = starts-end (suc f) s at (ltb-false _ _ e) ∙ sym (starts-end (suc g) s at (ltb-false _ _ e))
 
 pub records-end : (s : List ℕ) (at : ℕ) → length s ≤ at → recordsFrom s at ≡ []
@@ -126,7 +130,8 @@ end-none s b e h = rw (eq-eqb b 0 h) (cases (eqb (length s) 0))
   where
     cases :
         (t : Bool)
-        → judged (when (mathlib.Core.Bool._||_ t true) 17 0) (length s) (judgeEnds s b (recordsFrom s 0) 0) ≡ Refused 17 (length s)
+        → judged (when (mathlib.Core.Bool._||_ t true) 17 0) (length s) (judgeEnds s b (recordsFrom s 0) 0)
+        ≡ Refused 17 (length s)
     cases true = refl
     cases false = refl
 
@@ -137,7 +142,8 @@ end-some s b e n h = rw (ne-eqb b 0 n, ne-eqb (length s) 0 (λ z. n (omega arith
 
 -- A block's effects: one more at an effect, none at any other record and at the end.
 module _ (s : List ℕ) (at : ℕ) (h : at < length s) where
-  pub own-more : kindAt s at .role ≡ effectRole → ownEffects s (recordsFrom s at) ≡ suc (ownEffects s (recordsFrom s (next s at)))
+  pub own-more : kindAt s at .role ≡ effectRole
+      → ownEffects s (recordsFrom s at) ≡ suc (ownEffects s (recordsFrom s (next s at)))
   unfolding ownEffects
   own-more e = rw (records-step s at h, eq-eqb (kindAt s at .role) effectRole e)
 

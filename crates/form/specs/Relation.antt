@@ -23,12 +23,16 @@ meets (suc (suc (suc (suc zero)))) value constant = ltZ constant value
 meets (suc (suc (suc (suc (suc zero))))) value constant = leZ value constant
 meets (suc (suc (suc (suc (suc (suc above)))))) value constant = false
 
--- the relation that holds exactly where this one fails; a number above 5 stays as it is
+-- another number for each of the six; a number above 5 stays as it is
+abbrev pub renumbered : (equal unequal less atLeast greater atMost : ℕ) → ℕ → ℕ
+renumbered equal unequal less atLeast greater atMost zero = equal
+renumbered equal unequal less atLeast greater atMost (suc zero) = unequal
+renumbered equal unequal less atLeast greater atMost (suc (suc zero)) = less
+renumbered equal unequal less atLeast greater atMost (suc (suc (suc zero))) = atLeast
+renumbered equal unequal less atLeast greater atMost (suc (suc (suc (suc zero)))) = greater
+renumbered equal unequal less atLeast greater atMost (suc (suc (suc (suc (suc zero))))) = atMost
+renumbered equal unequal less atLeast greater atMost (suc (suc (suc (suc (suc (suc above)))))) = suc (suc (suc (suc (suc (suc above)))))
+
+-- the relation that holds exactly where this one fails: = and ≠, < and ≥, > and ≤
 abbrev pub opposite : ℕ → ℕ
-opposite zero = 1
-opposite (suc zero) = 0
-opposite (suc (suc zero)) = 3
-opposite (suc (suc (suc zero))) = 2
-opposite (suc (suc (suc (suc zero)))) = 5
-opposite (suc (suc (suc (suc (suc zero))))) = 4
-opposite (suc (suc (suc (suc (suc (suc above)))))) = suc (suc (suc (suc (suc (suc above)))))
+opposite relation = renumbered 1 0 3 2 5 4 relation

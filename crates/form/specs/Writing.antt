@@ -1,4 +1,5 @@
--- Laws of the reader's and the writer's answers: the numbers follow the case; and one law for each way that the writer ends. Rests on Form and Answer.
+-- Laws of the reader's and the writer's answers: the numbers follow the case; and one law for each way that the writer
+-- ends. Rests on Form and Answer.
 use mathlib.Core.Bool.{Bool, true, false, true≢false, false≢true}
 use mathlib.Core.List.{List, _++_}
 use mathlib.Core.Path.{_≡_, refl, ap, sym, _∙_}
@@ -20,7 +21,8 @@ pub judged-as : (s : List ℕ) (v : Verdict) → v ≡ judge s → Judged s v
 judged-as s v e = (e, ap said e)
 
 pub wrote-as :
-    (body : Body) (out : List ℕ) (r : Written) (held : List ℕ) → r ≡ written body (length out) → held ≡ heldAfter r (lay body) out
+    (body : Body) (out : List ℕ) (r : Written) (held : List ℕ) → r ≡ written body (length out)
+    → held ≡ heldAfter r (lay body) out
     → Wrote body out r held
 wrote-as body out r held e h = (e, (h, ap saidWritten e))
 
@@ -36,7 +38,8 @@ judged-on : (v : Verdict) (r : Written) → accepted v ≡ true → r ≡ asJudg
 judged-on Accepted r e = refl
 judged-on (Refused number place) r e = absurd (false≢true e)
 
-pub held-refused : (v : Verdict) (form out : List ℕ) → accepted v ≡ false → out ≡ heldAfter (asJudged v (Bytes 0)) form out
+pub held-refused : (v : Verdict) (form out : List ℕ) → accepted v ≡ false
+    → out ≡ heldAfter (asJudged v (Bytes 0)) form out
 held-refused Accepted form out e = absurd (true≢false e)
 held-refused (Refused number place) form out e = refl
 
@@ -60,6 +63,7 @@ module _ (body : Body) (room : ℕ) (fit : countsFit body ≡ true) (v : Verdict
   room-enough e h = sym (ap pick (le-ltb room (length (lay body)) h)) ∙ (judged-on v byRoom e ∙ whole)
 
 -- what is pasted from the start on, before what stood there
-pub pasted-front : (out bytes form : List ℕ) → bytes ≡ form → paste out 0 bytes (length bytes) ≡ form ++ drop (length form) out
+pub pasted-front : (out bytes form : List ℕ) → bytes ≡ form
+    → paste out 0 bytes (length bytes) ≡ form ++ drop (length form) out
 pasted-front out bytes form e =
     (λ i. take-length bytes i ++ drop (zero-add (length bytes) i) out) ∙ ap (λ (l : List ℕ). l ++ drop (length l) out) e

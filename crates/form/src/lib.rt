@@ -1,6 +1,9 @@
-// The order form of document 01: the structs of a body, by value, and the cases of the reader's and the writer's answers. No function: the reader is the crate reader, the
-// writer the crate writer. What each record means, and what is answered, is in specs/.
-// A kind of record: the length of its records, and what they are: 0 nothing that the form knows, 1 the counter, 2 a block, 3 an effect.
+// The order form of document 01: the structs of a body, by value, and the cases of the reader's and the writer's
+// answers. No function: the reader is the crate reader, the writer the crate writer. What each record means, and what
+// is answered, is in specs/.
+
+// A kind of record: the length of its records, and what they are: 0 nothing that the form knows, 1 the counter, 2 a
+// block, 3 an effect.
 pub struct Kind {
     pub length: u32,
     pub role: u32,

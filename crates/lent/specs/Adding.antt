@@ -21,10 +21,12 @@ then {o} {p} {q} {a} {b} {at} x y = record {
 pub nothing : (o : List ℕ) (at : ℕ) → Adds o at o at []
 nothing o at = record { end = omega arith; holds = sym (append-nil (take at o)) }
 
-pub pasted : (o bytes after : List ℕ) (at j : ℕ) → at ≤ length o → j ≡ length bytes → after ≡ paste o at bytes j → Adds o at after (at + j) bytes
+pub pasted : (o bytes after : List ℕ) (at j : ℕ) → at ≤ length o → j ≡ length bytes → after ≡ paste o at bytes j
+    → Adds o at after (at + j) bytes
 pasted o bytes after at j h all e = record {
   end = ap (λ (n : ℕ). at + n) all;
   holds =
       (λ i. take (at + all i) ((e ∙ ap (paste o at bytes) all) i))
-      ∙ (take-paste o at bytes (length bytes) h (le-refl (length bytes)) ∙ ap (λ (l : List ℕ). take at o ++ l) (take-length bytes));
+      ∙ (take-paste o at bytes (length bytes) h (le-refl (length bytes))
+      ∙ ap (λ (l : List ℕ). take at o ++ l) (take-length bytes));
 }

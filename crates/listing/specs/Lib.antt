@@ -4,3 +4,4 @@ pub mod Laying
 pub mod Listing
 pub mod Answered
 pub mod Uniqueness
+pub mod Refusals

@@ -1,15 +1,13 @@
-// The conflict list of document 01, read off what the crate path_sets finds of a body: its number of entries, and its bytes for any form. The meaning is in
-// specs/Answer.antt and in form's Conflict.
+// The conflict list of document 01, read off what the crate path_sets finds of a body: its number of entries, and its
+// bytes for any form. The meaning is in specs/Answer.antt and in form's Conflict.
 ghost use mathlib.Core.Path.{_≡_};
 ghost use Prim.Native.Nat.{_+_, _≤_, _<_};
 ghost use lib.ListN.{length};
-ghost use lib.Seq.{sets};
 ghost use lib.Count.{ones};
-ghost use Rattle.form.specs.Form.{bodyOf};
 ghost use Rattle.form.specs.Conflict.{Sound, conflictBytes};
-ghost use Rattle.listing.specs.Laying.{entryBytes, wordBytes, edgeBytes};
-ghost use Rattle.listing.specs.Listing.{allBytes, bitsOf, Rows};
-ghost use Rattle.listing.specs.Answer.{listedIn, listing, heldAfter};
+ghost use Rattle.listing.specs.Laying.{entryBytes, wordBytes, edgeBytes, Wrote};
+ghost use Rattle.listing.specs.Listing.{allBytes, bitsOf, firstsBits, Rows, FoundRows, foundBytes};
+ghost use Rattle.listing.specs.Answer.{listedIn, heldAfter, Answered};
 
 // What the conflict list answers: how many bytes it wrote, or the refusal's number and place.
 pub enum Listed {
@@ -29,7 +27,7 @@ fn entry(
     outcome: u8,
 ) -> usize
     requires { ⌜ ((first < 256) × (second < 256)) × (at + length (entryBytes on kind first third second outcome) ≤ length (now out)) ⌝ }
-    ensures { λ r. ⌜ (r ≡ at + length (entryBytes on kind first third second outcome)) × (now (out .exit) ≡ sets (now (out .entry)) at (entryBytes on kind first third second outcome)) ⌝ }
+    ensures { λ r. ⌜ Wrote at (entryBytes on kind first third second outcome) (now (out .entry)) r (now (out .exit)) ⌝ }
 {
     if !on {
         return at;
@@ -55,7 +53,7 @@ fn entries(
     outcome: u8,
 ) -> usize
     requires { ⌜ (second < 256) × (start + length (wordBytes kind word third other another second outcome) ≤ length (now out)) ⌝ }
-    ensures { λ r. ⌜ (r ≡ start + length (wordBytes kind word third other another second outcome)) × (now (out .exit) ≡ sets (now (out .entry)) start (wordBytes kind word third other another second outcome)) ⌝ }
+    ensures { λ r. ⌜ Wrote start (wordBytes kind word third other another second outcome) (now (out .entry)) r (now (out .exit)) ⌝ }
 {
     let mut at = start;
     let mut f = 0;
@@ -81,7 +79,7 @@ fn edge_entries(
     outcome: u8,
 ) -> usize
     requires { ⌜ (second < 256) × (at + length (edgeBytes assigned jump fall variable second outcome) ≤ length (now out)) ⌝ }
-    ensures { λ r. ⌜ (r ≡ at + length (edgeBytes assigned jump fall variable second outcome)) × (now (out .exit) ≡ sets (now (out .entry)) at (edgeBytes assigned jump fall variable second outcome)) ⌝ }
+    ensures { λ r. ⌜ Wrote at (edgeBytes assigned jump fall variable second outcome) (now (out .entry)) r (now (out .exit)) ⌝ }
 {
     let next = entries(out, at, 1, assigned, variable, 0, 0, second, outcome);
     entries(out, next, 2, jump, 1, fall, 2, second, outcome)
@@ -119,7 +117,7 @@ fn all_entries(
     f2: &[u64],
 ) -> usize
     requires { ⌜ Rows (now variable) (now a1) (now j1) (now f1) (now a2) (now j2) (now f2) × (0 + length (allBytes (now variable) (now a1) (now j1) (now f1) (now a2) (now j2) (now f2)) ≤ length (now out)) ⌝ }
-    ensures { λ r. ⌜ (r ≡ 0 + length (allBytes (now (variable .entry)) (now (a1 .entry)) (now (j1 .entry)) (now (f1 .entry)) (now (a2 .entry)) (now (j2 .entry)) (now (f2 .entry)))) × (now (out .exit) ≡ sets (now (out .entry)) 0 (allBytes (now (variable .entry)) (now (a1 .entry)) (now (j1 .entry)) (now (f1 .entry)) (now (a2 .entry)) (now (j2 .entry)) (now (f2 .entry)))) ⌝ }
+    ensures { λ r. ⌜ Wrote 0 (allBytes (now (variable .entry)) (now (a1 .entry)) (now (j1 .entry)) (now (f1 .entry)) (now (a2 .entry)) (now (j2 .entry)) (now (f2 .entry))) (now (out .entry)) r (now (out .exit)) ⌝ }
 {
     let mut at = 0;
     let mut s = 0;
@@ -134,7 +132,7 @@ fn all_entries(
 
 fn firsts_number(p: sets::Firsts) -> usize
     requires { ⌜ (length (p .assigned) ≡ 64) × ((length (p .jump) ≡ 64) × (length (p .fall) ≡ 64)) ⌝ }
-    ensures { λ r. ⌜ (r ≡ bitsOf (p .assigned) (p .jump) (p .fall)) × (r ≤ 12288) ⌝ }
+    ensures { λ r. ⌜ (r ≡ firstsBits p) × (r ≤ 12288) ⌝ }
 {
     let a = p.assigned;
     let j = p.jump;
@@ -143,8 +141,8 @@ fn firsts_number(p: sets::Firsts) -> usize
 }
 
 fn found_number(f: sets::Found) -> usize
-    requires { ⌜ Rows (f .variable) (f .jumped .assigned) (f .jumped .jump) (f .jumped .fall) (f .fallen .assigned) (f .fallen .jump) (f .fallen .fall) ⌝ }
-    ensures { λ r. ⌜ (r ≡ bitsOf (f .jumped .assigned) (f .jumped .jump) (f .jumped .fall) + bitsOf (f .fallen .assigned) (f .fallen .jump) (f .fallen .fall)) × (r ≤ 24576) ⌝ }
+    requires { ⌜ FoundRows f ⌝ }
+    ensures { λ r. ⌜ (r ≡ firstsBits (f .jumped) + firstsBits (f .fallen)) × (r ≤ 24576) ⌝ }
 {
     let p = f.jumped;
     let q = f.fallen;
@@ -152,8 +150,8 @@ fn found_number(f: sets::Found) -> usize
 }
 
 fn found_entries(out: &mut [u8], f: sets::Found) -> usize
-    requires { ⌜ Rows (f .variable) (f .jumped .assigned) (f .jumped .jump) (f .jumped .fall) (f .fallen .assigned) (f .fallen .jump) (f .fallen .fall) × (0 + length (allBytes (f .variable) (f .jumped .assigned) (f .jumped .jump) (f .jumped .fall) (f .fallen .assigned) (f .fallen .jump) (f .fallen .fall)) ≤ length (now out)) ⌝ }
-    ensures { λ r. ⌜ (r ≡ 0 + length (allBytes (f .variable) (f .jumped .assigned) (f .jumped .jump) (f .jumped .fall) (f .fallen .assigned) (f .fallen .jump) (f .fallen .fall))) × (now (out .exit) ≡ sets (now (out .entry)) 0 (allBytes (f .variable) (f .jumped .assigned) (f .jumped .jump) (f .jumped .fall) (f .fallen .assigned) (f .fallen .jump) (f .fallen .fall))) ⌝ }
+    requires { ⌜ FoundRows f × (0 + length (foundBytes f) ≤ length (now out)) ⌝ }
+    ensures { λ r. ⌜ Wrote 0 (foundBytes f) (now (out .entry)) r (now (out .exit)) ⌝ }
 {
     let variable = f.variable;
     let p = f.jumped;
@@ -186,7 +184,7 @@ fn list_of(body: form::Body, out: &mut [u8]) -> Listed
 
 // The conflict list, for any bytes: 10 to 19, then 42 with the bytes needed, else the list's bytes into `out`.
 pub fn conflicts(form: &[u8], out: &mut [u8]) -> Listed
-    ensures { λ r. ⌜ (r ≡ listing (now (form .entry)) (length (now (out .entry)))) × (now (out .exit) ≡ heldAfter r (conflictBytes (bodyOf (now (form .entry)))) (now (out .entry))) ⌝ }
+    ensures { λ r. ⌜ Answered (now (form .entry)) (now (out .entry)) r (now (out .exit)) ⌝ }
 {
     let reading = reader::read(form);
     let verdict = reading.verdict;

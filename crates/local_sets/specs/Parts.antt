@@ -1,26 +1,29 @@
--- What the private functions' contracts say of the words and lists that they pass on. Rests on form's Conflict and on words.Filled.
+-- What the private functions' contracts say of the words and lists that they pass on. Rests on form's Conflict and on
+-- words.Filled.
 use mathlib.Core.Path.{_≡_}
 use mathlib.Core.Bool.{not, _&&_}
 use mathlib.Core.List.{List}
-use Prim.Native.Nat.{ℕ, _<_}
+use Prim.Native.Nat.{ℕ, zero, suc, _+_, _<_}
 use lib.Dec.{eqb, ltb}
 use lib.IntN.{ℤ, pos}
-use lib.ListN.{length, getD, take}
+use lib.ListN.{length, getD, take, drop}
 use Rattle.laws.specs.Terms.{bit, anyOf}
 use Rattle.words.specs.Filled.{Told}
-use Rattle.form.specs.declared.Body.{Body}
 use Rattle.form.specs.declared.Block.{Block}
 use Rattle.form.specs.declared.Effect.{Effect}
-use Rattle.form.specs.Form.{zeroCounter}
+use Rattle.form.specs.Form.{zeroEffect}
 use Rattle.form.specs.Relation.{opposite}
-use Rattle.form.specs.Conflict.{Condition, noBlock, block, effectsOf, refuses, lastOn}
+use Rattle.form.specs.Conflict.{Condition, noBlock, refuses, lastOn}
 use Rattle.lower_laws.specs.PairTest.{shares}
 use Rattle.lower_laws.specs.Endings.{target}
+use Rattle.sets.specs.declared.Edges.{Edges}
 use Rattle.local_sets.specs.declared.Tests.{Tests}
-use Rattle.sets.specs.declared.Targets.{Targets}
+use Rattle.local_sets.specs.declared.Columns.{Columns}
+use Rattle.local_sets.specs.declared.Marks.{Marks}
 use Rattle.local_sets.specs.declared.Hits.{Hits}
 use Rattle.local_sets.specs.declared.EffectRows.{EffectRows}
-use Rattle.local_sets.specs.declared.Opposition.{Opposition}
+
+-- ---- blocks
 
 -- block k of the first `count` of a list
 abbrev pub blockIn : ℕ → List Block → ℕ → Block
@@ -33,69 +36,119 @@ jumpOf k = target (ltb 0 (k .ending) && ltb (k .ending) 4) (k .jump)
 abbrev pub fallOf : Block → ℕ
 fallOf k = target (ltb 1 (k .ending) && ltb (k .ending) 4) (k .fall)
 
--- a body with these parts; its counter and its number of effects do not matter for conflicts
-abbrev pub withParts : ℕ → List Block → List Effect → Body
-withParts count blocks effects = record { counter = zeroCounter; count = count; blocks = blocks; total = 0; effects = effects }
-
--- the tests among blocks: which they are, and each block's variable, relation by jump, relation by fall and constant
-pub record TestsOf (block : ℕ → Block) (t : Tests) : Type 0 where
-  pub tests : (k : ℕ) → bit (t .tests) k ≡ eqb (block k .ending) 3
-  pub variables : Told 0 (λ k x. x ≡ block k .variable) 64 64 (t .variable)
-  pub jumps : Told 0 (λ k x. x ≡ block k .relation) 64 64 (t .jump)
-  pub falls : Told 0 (λ k x. x ≡ opposite (block k .relation)) 64 64 (t .fall)
-  pub constants : Told (pos 0) (λ k x. x ≡ block k .constant) 64 64 (t .constant)
-
-pub record TargetsOf (block : ℕ → Block) (t : Targets) : Type 0 where
-  pub jumps : Told 64 (λ k x. x ≡ jumpOf (block k)) 64 64 (t .jump)
-  pub falls : Told 64 (λ k x. x ≡ fallOf (block k)) 64 64 (t .fall)
+-- the columns of blocks: which are tests, each block's variable, relation by jump, relation by fall and constant,
+-- where its ways lead, and its number of effects
+pub record ColumnsOf (block : ℕ → Block) (c : Columns) : Type 0 where
+  pub tests : (k : ℕ) → bit (c .tests .tests) k ≡ eqb (block k .ending) 3
+  pub variables : Told 0 (λ k x. x ≡ block k .variable) 64 64 (c .tests .variable)
+  pub jumps : Told 0 (λ k x. x ≡ block k .relation) 64 64 (c .tests .jump)
+  pub falls : Told 0 (λ k x. x ≡ opposite (block k .relation)) 64 64 (c .tests .fall)
+  pub constants : Told (pos 0) (λ k x. x ≡ block k .constant) 64 64 (c .tests .constant)
+  pub to-jumps : Told 64 (λ k x. x ≡ jumpOf (block k)) 64 64 (c .targets .jump)
+  pub to-falls : Told 64 (λ k x. x ≡ fallOf (block k)) 64 64 (c .targets .fall)
+  pub owned : Told 0 (λ k x. x ≡ block k .effects) 64 64 (c .owned)
 
 -- the lists have a place for each block
-pub record Sizes (variable jump fall : List ℕ) (constant : List ℤ) : Type 0 where
-  pub variables : length variable ≡ 64
-  pub jumps : length jump ≡ 64
-  pub falls : length fall ≡ 64
-  pub constants : length constant ≡ 64
+pub record Sized (t : Tests) : Type 0 where
+  pub variables : length (t .variable) ≡ 64
+  pub jumps : length (t .jump) ≡ 64
+  pub falls : length (t .fall) ≡ 64
+  pub constants : length (t .constant) ≡ 64
 
--- of the tests with these variables, relations by one way and constants: those that effects touch, and those whose edge by that way the last effect on
--- their variable denies
-abbrev pub TouchedBy : (tests : ℕ) (variable : List ℕ) → List Effect → ℕ → Type 0
-TouchedBy tests variable effects x = (j : ℕ) → bit x j ≡ bit tests j && anyOf (λ a. eqb (a .variable) (getD variable j 0)) effects
-
-abbrev pub conditionAt : (variable relation : List ℕ) (constant : List ℤ) → ℕ → Condition
-conditionAt variable relation constant j = record { variable = getD variable j 0; relation = getD relation j 0; constant = getD constant j (pos 0) }
-
-abbrev pub DeniedBy : (tests : ℕ) (variable relation : List ℕ) (constant : List ℤ) → List Effect → ℕ → Type 0
-DeniedBy tests variable relation constant effects x = (j : ℕ) → bit x j ≡ bit tests j && refuses (lastOn (getD variable j 0) effects) (conditionAt variable relation constant j)
-
--- for each variable, the tests on it
+-- for each variable, of which there are no more than 256, the tests on it
 pub record OnVariable (tests : ℕ) (variable l : List ℕ) : Type 0 where
   pub size : length l ≡ 256
+  pub small : (j : ℕ) → getD variable j 0 < 256
   pub at : (v : ℕ) → v < 256 → (j : ℕ) → bit (getD l v 0) j ≡ bit tests j && eqb (getD variable j 0) v
 
-pub record HitsOf (tests : ℕ) (variable jump fall : List ℕ) (constant : List ℤ) (effects : List Effect) (h : Hits) : Type 0 where
-  pub touched : TouchedBy tests variable effects (h .touched)
-  pub jumps : DeniedBy tests variable jump constant effects (h .jump)
-  pub falls : DeniedBy tests variable fall constant effects (h .fall)
+-- ---- effects
 
-pub record EffectRowsOf (body : Body) (tests : ℕ) (variable jump fall : List ℕ) (constant : List ℤ) (r : EffectRows) : Type 0 where
-  pub touched : Told 0 (λ b x. TouchedBy tests variable (effectsOf body b) x) 64 64 (r .touched)
-  pub jumps : Told 0 (λ b x. DeniedBy tests variable jump constant (effectsOf body b) x) 64 64 (r .jump)
-  pub falls : Told 0 (λ b x. DeniedBy tests variable fall constant (effectsOf body b) x) 64 64 (r .fall)
+-- of the tests, those that effects touch, and those whose edge by one way (its relations) the last effect on their
+-- variable denies
+abbrev pub TouchedBy : Tests → List Effect → ℕ → Type 0
+TouchedBy t effects x = (j : ℕ)
+    → bit x j ≡ bit (t .tests) j && anyOf (λ a. eqb (a .variable) (getD (t .variable) j 0)) effects
+
+abbrev pub conditionAt : Tests → (relation : List ℕ) → ℕ → Condition
+conditionAt t relation j = record {
+  variable = getD (t .variable) j 0;
+  relation = getD relation j 0;
+  constant = getD
+      (t .constant) j (pos 0);
+}
+
+abbrev pub DeniedBy : Tests → (relation : List ℕ) → List Effect → ℕ → Type 0
+DeniedBy t relation effects x = (j : ℕ)
+    → bit x j ≡ bit (t .tests) j && refuses (lastOn (getD (t .variable) j 0) effects) (conditionAt t relation j)
+
+-- by itself an effect is on the tests of its variable, and denies, where it is a constant, the edges that the
+-- constant does not meet
+abbrev pub OnAt : Tests → Effect → ℕ → Type 0
+OnAt t a x = (j : ℕ) → bit x j ≡ bit (t .tests) j && eqb (getD (t .variable) j 0) (a .variable)
+
+abbrev pub MarkAt : Tests → (relation : List ℕ) → Effect → ℕ → Type 0
+MarkAt t relation a x =
+    (j : ℕ) → bit x j ≡ (eqb (a .how) 1 && (bit (t .tests) j && eqb (getD (t .variable) j 0) (a .variable))) && not
+    (shares 0 (a .constant) (getD relation j 0) (getD (t .constant) j (pos 0)))
+
+-- the first n effects
+pub record MarksOf (n : ℕ) (t : Tests) (effects : List Effect) (on jump fall : List ℕ) : Type 0 where
+  pub all : length effects ≡ 256
+  pub ons : Told 0 (λ k x. OnAt t (getD effects k zeroEffect) x) 256 n on
+  pub jumps : Told 0 (λ k x. MarkAt t (t .jump) (getD effects k zeroEffect) x) 256 n jump
+  pub falls : Told 0 (λ k x. MarkAt t (t .fall) (getD effects k zeroEffect) x) 256 n fall
+
+pub record HitsOf (t : Tests) (effects : List Effect) (h : Hits) : Type 0 where
+  pub touched : TouchedBy t effects (h .touched)
+  pub jumps : DeniedBy t (t .jump) effects (h .jump)
+  pub falls : DeniedBy t (t .fall) effects (h .fall)
+
+-- whatever tests the groups are of
+abbrev pub MarksFrom : (groups jump fall : List ℕ) (constant : List ℤ) → List Effect → Marks → Type 0
+MarksFrom groups jump fall constant effects m =
+    (tests : ℕ) (variable : List ℕ) → OnVariable tests variable groups
+    → MarksOf 256
+    (record { tests = tests; variable = variable; jump = jump; fall = fall; constant = constant }) effects (m .on)
+    (m .jump) (m .fall)
+
+-- whatever tests and effects the marks are of
+abbrev pub HitsFrom : (on jump fall : List ℕ) → (from own : ℕ) → Hits → Type 0
+HitsFrom on jump fall from own h = (t : Tests) (effects : List Effect) → MarksOf 256 t effects on jump fall
+    → HitsOf t (take own (drop from effects)) h
+
+-- how many effects the blocks below b have, and block b's own, where each block has so many
+unfoldable pub passed : (owned : List ℕ) → ℕ → ℕ
+passed owned zero = 0
+passed owned (suc b) = passed owned b + getD owned b 0
+
+abbrev pub ownEffects : (owned : List ℕ) → List Effect → ℕ → List Effect
+ownEffects owned effects b = take (getD owned b 0) (drop (passed owned b) effects)
+
+pub record EffectRowsOf (t : Tests) (owned : List ℕ) (effects : List Effect) (r : EffectRows) : Type 0 where
+  pub touched : Told 0 (λ b x. TouchedBy t (ownEffects owned effects b) x) 64 64 (r .touched)
+  pub jumps : Told 0 (λ b x. DeniedBy t (t .jump) (ownEffects owned effects b) x) 64 64 (r .denied .jump)
+  pub falls : Told 0 (λ b x. DeniedBy t (t .fall) (ownEffects owned effects b) x) 64 64 (r .denied .fall)
+
+abbrev pub RowsFrom : (owned on jump fall : List ℕ) → EffectRows → Type 0
+RowsFrom owned on jump fall r = (t : Tests) (effects : List Effect) → MarksOf 256 t effects on jump fall
+    → EffectRowsOf t owned effects r
+
+-- ---- edges
 
 -- the tests on the variable of test b
 abbrev pub AlikeAt : (tests : ℕ) (variable : List ℕ) → ℕ → ℕ → Type 0
-AlikeAt tests variable b x = (j : ℕ) → bit x j ≡ bit tests b && (bit tests j && eqb (getD variable j 0) (getD variable b 0))
+AlikeAt tests variable b x = (j : ℕ)
+    → bit x j ≡ bit tests b && (bit tests j && eqb (getD variable j 0) (getD variable b 0))
 
 -- of those, the ones whose edge by the second way no whole number meets together with b's by the first
 abbrev pub OpposedAt : (alike first second : List ℕ) (constant : List ℤ) → ℕ → ℕ → Type 0
 OpposedAt alike first second constant b x =
-    (j : ℕ) → bit x j ≡ bit (getD alike b 0) j && not (shares (getD first b 0) (getD constant b (pos 0)) (getD second j 0) (getD constant j (pos 0)))
+    (j : ℕ) → bit x j ≡ bit (getD alike b 0) j && not
+    (shares (getD first b 0) (getD constant b (pos 0)) (getD second j 0) (getD constant j (pos 0)))
 
--- the edges that each test's edges oppose, by both ways of both
-pub record OpposedOf (tests : ℕ) (variable jump fall : List ℕ) (constant : List ℤ) (r : Opposition) : Type 0 where
+-- by both ways of the second
+pub record OpposedOf (t : Tests) (first : List ℕ) (r : Edges) : Type 0 where
   pub alike : List ℕ
-  pub alikes : Told 0 (AlikeAt tests variable) 64 64 alike
-  pub jump-jump : Told 0 (OpposedAt alike jump jump constant) 64 64 (r .jumping .jump)
-  pub jump-fall : Told 0 (OpposedAt alike jump fall constant) 64 64 (r .jumping .fall)
-  pub fall-jump : Told 0 (OpposedAt alike fall jump constant) 64 64 (r .falling .jump)
-  pub fall-fall : Told 0 (OpposedAt alike fall fall constant) 64 64 (r .falling .fall)
+  pub alikes : Told 0 (AlikeAt (t .tests) (t .variable)) 64 64 alike
+  pub jumps : Told 0 (OpposedAt alike first (t .jump) (t .constant)) 64 64 (r .jump)
+  pub falls : Told 0 (OpposedAt alike first (t .fall) (t .constant)) 64 64 (r .fall)

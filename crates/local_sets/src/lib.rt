@@ -1,20 +1,21 @@
-// What a body's blocks, effects and edges say by themselves, as sets of edges in words: the part of its conflicts that looks at no path. The meaning is in sets'
-// Local and in form's Conflict.
+// What a body's blocks, effects and edges say by themselves, as sets of edges in words: the part of its conflicts
+// that looks at no path. The meaning is in sets' Local and in form's Conflict.
 ghost use mathlib.Core.Path.{_≡_};
 ghost use mathlib.Core.Bool.{_&&_, not};
 ghost use Prim.Native.Nat.{ℕ, _+_, _≤_};
 ghost use lib.Dec.{ltb};
-ghost use lib.ListN.{length, getD, take, drop};
+ghost use lib.ListN.{length, getD};
 ghost use lib.IntN.{pos};
 ghost use Rattle.laws.specs.Terms.{bit};
 ghost use Rattle.form.specs.Form.{when};
 ghost use Rattle.form.specs.Conflict.{noBlock};
 ghost use Rattle.form.specs.Relation.{opposite};
-ghost use Rattle.lower_laws.specs.PairTest.{shares};
 ghost use Rattle.words.specs.Filled.{Told};
+ghost use Rattle.lower_laws.specs.PairTest.{shares};
 ghost use Rattle.lower_laws.specs.Effects.{Within};
 ghost use Rattle.lower_laws.specs.Endings.{target};
-ghost use Rattle.local_sets.specs.Parts.{blockIn, withParts, TestsOf, TargetsOf, Sizes, HitsOf, EffectRowsOf, OnVariable, AlikeAt, OpposedAt, OpposedOf};
+ghost use Rattle.local_sets.specs.Parts.{blockIn, ColumnsOf, Sized, OnVariable, MarksFrom, HitsFrom, RowsFrom};
+ghost use Rattle.local_sets.specs.Parts.{EffectRowsOf, AlikeAt, OpposedAt, OpposedOf};
 ghost use Rattle.sets.specs.Local.{localOf};
 
 // The tests of a body: which blocks they are, and each block's variable, relation by jump and by fall, and constant.
@@ -26,11 +27,32 @@ struct Tests {
     constant: [i32; 64],
 }
 
+// The blocks of a body by columns: the tests, where the ways lead, and how many effects each block has.
+struct Columns {
+    tests: Tests,
+    targets: sets::Targets,
+    owned: [usize; 64],
+}
+
+// For each effect of a body the tests on its variable, and of those the ones whose edge by jump, and by fall, it
+// denies.
+struct Marks {
+    on: [u64; 256],
+    jump: [u64; 256],
+    fall: [u64; 256],
+}
+
 // The tests that a block touches, and those whose jump or fall edge its last effect on their variable denies.
 struct Hits {
     touched: u64,
     jump: u64,
     fall: u64,
+}
+
+// For each block, the tests that it touches and the edges that its effects deny.
+struct EffectRows {
+    touched: [u64; 64],
+    denied: sets::Edges,
 }
 
 fn opposite(relation: u8) -> u8
@@ -66,14 +88,23 @@ fn own_block(count: usize, i: usize, k: form::Block) -> form::Block
     }
 }
 
-fn tests_of(count: usize, blocks: [form::Block; 64]) -> Tests
-    ensures { λ r. ⌜ TestsOf (blockIn count blocks) r × (length blocks ≡ 64) ⌝ }
+fn target(has: bool, to: u8) -> usize
+    ensures { λ r. ⌜ r ≡ target has to ⌝ }
+{
+    if has { to as usize } else { 64 }
+}
+
+fn columns_of(count: usize, blocks: [form::Block; 64]) -> Columns
+    ensures { λ r. ⌜ ColumnsOf (blockIn count blocks) r × (length blocks ≡ 64) ⌝ }
 {
     let mut tests = 0;
     let mut variable = [0; 64];
     let mut jump = [0; 64];
     let mut fall = [0; 64];
     let mut constant = [0; 64];
+    let mut jumps = [64; 64];
+    let mut falls = [64; 64];
+    let mut owned = [0; 64];
     let mut i = 0;
     while i < 64 {
         let k = own_block(count, i, blocks[i]);
@@ -83,36 +114,27 @@ fn tests_of(count: usize, blocks: [form::Block; 64]) -> Tests
         fall[i] = opposite(k.relation);
         let c = k.constant;
         constant[i] = c;
+        jumps[i] = target((0 < k.ending) & (k.ending < 4), k.jump);
+        falls[i] = target((1 < k.ending) & (k.ending < 4), k.fall);
+        owned[i] = k.effects;
         i += 1;
     }
-    Tests {
+    let tests = Tests {
         tests,
         variable,
         jump,
         fall,
         constant,
+    };
+    let targets = sets::Targets {
+        jump: jumps,
+        fall: falls,
+    };
+    Columns {
+        tests,
+        targets,
+        owned,
     }
-}
-
-fn target(has: bool, to: u8) -> usize
-    ensures { λ r. ⌜ r ≡ target has to ⌝ }
-{
-    if has { to as usize } else { 64 }
-}
-
-fn targets_of(count: usize, blocks: [form::Block; 64]) -> sets::Targets
-    ensures { λ r. ⌜ TargetsOf (blockIn count blocks) r ⌝ }
-{
-    let mut jump = [64; 64];
-    let mut fall = [64; 64];
-    let mut i = 0;
-    while i < 64 {
-        let k = own_block(count, i, blocks[i]);
-        jump[i] = target((0 < k.ending) & (k.ending < 4), k.jump);
-        fall[i] = target((1 < k.ending) & (k.ending < 4), k.fall);
-        i += 1;
-    }
-    sets::Targets { jump, fall }
 }
 
 // For each variable, the tests on it.
@@ -146,40 +168,56 @@ fn opposed(set: u64, relations: &[u8], constants: &[i32], relation: u8, constant
     r
 }
 
-// The effects of a block, `own` of them from place `from` on: which tests they touch, and which edges the last on their variable denies.
-fn hits_of(
-    tests: u64,
-    variable: &[u8],
+// What each effect by itself does to the tests: `groups` has the tests on each variable, then come the tests'
+// relations by jump and by fall, and their constants.
+fn marks_of(
+    effects: [form::Effect; 256],
     groups: &[u64],
     jump: &[u8],
     fall: &[u8],
     constant: &[i32],
-    effects: [form::Effect; 256],
-    from: usize,
-    own: usize,
-) -> Hits
-    requires { ⌜ Sizes (now variable) (now jump) (now fall) (now constant) × (OnVariable tests (now variable) (now groups) × (from + own ≤ 256)) ⌝ }
-    ensures { λ r. ⌜ HitsOf tests (now (variable .entry)) (now (jump .entry)) (now (fall .entry)) (now (constant .entry)) (take own (drop from effects)) r ⌝ }
+) -> Marks
+    requires { ⌜ (length (now groups) ≡ 256) × ((length (now jump) ≡ 64) × ((length (now fall) ≡ 64) × (length (now constant) ≡ 64))) ⌝ }
+    ensures { λ r. ⌜ MarksFrom (now (groups .entry)) (now (jump .entry)) (now (fall .entry)) (now (constant .entry)) effects r ⌝ }
+{
+    let mut on = [0; 256];
+    let mut by_jump = [0; 256];
+    let mut by_fall = [0; 256];
+    let mut k = 0;
+    while k < 256 {
+        let a = effects[k];
+        let value = a.constant;
+        let v = a.variable as usize;
+        let alike = groups[v];
+        let set = words::only(a.how == 1, alike);
+        on[k] = alike;
+        by_jump[k] = opposed(set, jump, constant, 0, value);
+        by_fall[k] = opposed(set, fall, constant, 0, value);
+        k += 1;
+    }
+    Marks {
+        on,
+        jump: by_jump,
+        fall: by_fall,
+    }
+}
+
+// The effects of a block, `own` of them from place `from` on: which tests they touch, and which edges the last on
+// their variable denies.
+fn hits_of(on: &[u64], jump: &[u64], fall: &[u64], from: usize, own: usize) -> Hits
+    requires { ⌜ ((length (now on) ≡ 256) × ((length (now jump) ≡ 256) × (length (now fall) ≡ 256))) × (from + own ≤ 256) ⌝ }
+    ensures { λ r. ⌜ HitsFrom (now (on .entry)) (now (jump .entry)) (now (fall .entry)) from own r ⌝ }
 {
     let mut touched = 0;
     let mut by_jump = 0;
     let mut by_fall = 0;
     let mut k = 0;
     while k < own {
-        let a = effects[from + k];
-        let value = a.constant;
-        let v = a.variable as usize;
-        let on = groups[v];
-        let set = words::only(a.how == 1, on);
-        touched = words::either(touched, on);
-        by_jump = words::either(
-            words::less(by_jump, on),
-            opposed(set, jump, constant, 0, value),
-        );
-        by_fall = words::either(
-            words::less(by_fall, on),
-            opposed(set, fall, constant, 0, value),
-        );
+        let i = from + k;
+        let alike = on[i];
+        touched = words::either(touched, alike);
+        by_jump = words::renewed(by_jump, alike, jump[i]);
+        by_fall = words::renewed(by_fall, alike, fall[i]);
         k += 1;
     }
     Hits {
@@ -198,59 +236,50 @@ fn within(from: usize, own: usize) -> usize
     if own < left { own } else { left }
 }
 
-// For each block, the tests that it touches and the edges that its effects deny.
-struct EffectRows {
-    touched: [u64; 64],
-    jump: [u64; 64],
-    fall: [u64; 64],
-}
-
-fn effect_rows(
-    count: usize,
-    blocks: [form::Block; 64],
-    effects: [form::Effect; 256],
-    tests: u64,
-    variable: &[u8],
-    jump: &[u8],
-    fall: &[u8],
-    constant: &[i32],
-) -> EffectRows
-    requires { ⌜ Sizes (now variable) (now jump) (now fall) (now constant) ⌝ }
-    ensures { λ r. ⌜ EffectRowsOf (withParts count blocks effects) tests (now (variable .entry)) (now (jump .entry)) (now (fall .entry)) (now (constant .entry)) r ⌝ }
+// The effects block by block, each block having so many as `owned` says.
+fn effect_rows(owned: &[usize], on: &[u64], jump: &[u64], fall: &[u64]) -> EffectRows
+    requires { ⌜ (length (now owned) ≡ 64) × ((length (now on) ≡ 256) × ((length (now jump) ≡ 256) × (length (now fall) ≡ 256))) ⌝ }
+    ensures { λ r. ⌜ RowsFrom (now (owned .entry)) (now (on .entry)) (now (jump .entry)) (now (fall .entry)) r ⌝ }
 {
-    let groups = tests_by_variable(tests, variable);
     let mut touched = [0; 64];
     let mut by_jump = [0; 64];
     let mut by_fall = [0; 64];
     let mut from = 0;
     let mut b = 0;
     while b < 64 {
-        let k = own_block(count, b, blocks[b]);
-        let own = within(from, k.effects);
-        let h = hits_of(
-            tests,
-            variable,
-            &groups,
-            jump,
-            fall,
-            constant,
-            effects,
-            from,
-            own,
-        );
+        let own = within(from, owned[b]);
+        let h = hits_of(on, jump, fall, from, own);
         touched[b] = h.touched;
         by_jump[b] = h.jump;
         by_fall[b] = h.fall;
         from += own;
         b += 1;
     }
-    EffectRows {
-        touched,
+    let denied = sets::Edges {
         jump: by_jump,
         fall: by_fall,
-    }
+    };
+    EffectRows { touched, denied }
 }
 
+// What the blocks' effects do to the tests.
+fn effects_by(owned: [usize; 64], effects: [form::Effect; 256], t: Tests) -> EffectRows
+    requires { ⌜ Sized t ⌝ }
+    ensures { λ r. ⌜ EffectRowsOf t owned effects r ⌝ }
+{
+    let variable = t.variable;
+    let jump = t.jump;
+    let fall = t.fall;
+    let constant = t.constant;
+    let groups = tests_by_variable(t.tests, &variable);
+    let marks = marks_of(effects, &groups, &jump, &fall, &constant);
+    let on = marks.on;
+    let by_jump = marks.jump;
+    let by_fall = marks.fall;
+    effect_rows(&owned, &on, &by_jump, &by_fall)
+}
+
+// For each test, the tests on its variable.
 fn alike_rows(tests: u64, variable: &[u8]) -> [u64; 64]
     requires { ⌜ length (now variable) ≡ 64 ⌝ }
     ensures { λ r. ⌜ Told 0 (AlikeAt tests (now (variable .entry))) 64 64 r ⌝ }
@@ -266,8 +295,10 @@ fn alike_rows(tests: u64, variable: &[u8]) -> [u64; 64]
     r
 }
 
+// Of those, the ones whose relation among the second no whole number meets together with the test's own among the
+// first.
 fn opposed_rows(alike: &[u64], first: &[u8], second: &[u8], constant: &[i32]) -> [u64; 64]
-    requires { ⌜ (length (now alike) ≡ 64) × Sizes (now first) (now first) (now second) (now constant) ⌝ }
+    requires { ⌜ (length (now alike) ≡ 64) × ((length (now first) ≡ 64) × ((length (now second) ≡ 64) × (length (now constant) ≡ 64))) ⌝ }
     ensures { λ r. ⌜ Told 0 (OpposedAt (now (alike .entry)) (now (first .entry)) (now (second .entry)) (now (constant .entry))) 64 64 r ⌝ }
 {
     let mut r = [0; 64];
@@ -280,60 +311,19 @@ fn opposed_rows(alike: &[u64], first: &[u8], second: &[u8], constant: &[i32]) ->
     r
 }
 
-// The edges that each test's edges by jump, and those by fall, conflict with.
-struct Opposition {
-    jumping: sets::Edges,
-    falling: sets::Edges,
-}
-
-fn oppose(tests: u64, variable: &[u8], jump: &[u8], fall: &[u8], constant: &[i32]) -> Opposition
-    requires { ⌜ Sizes (now variable) (now jump) (now fall) (now constant) ⌝ }
-    ensures { λ r. ⌜ OpposedOf tests (now (variable .entry)) (now (jump .entry)) (now (fall .entry)) (now (constant .entry)) r ⌝ }
-{
-    let alike = alike_rows(tests, variable);
-    let a = opposed_rows(&alike, jump, jump, constant);
-    let b = opposed_rows(&alike, jump, fall, constant);
-    let c = opposed_rows(&alike, fall, jump, constant);
-    let d = opposed_rows(&alike, fall, fall, constant);
-    let jumping = sets::Edges { jump: a, fall: b };
-    let falling = sets::Edges { jump: c, fall: d };
-    Opposition { jumping, falling }
-}
-
-fn opposed_of(t: Tests) -> Opposition
-    requires { ⌜ Sizes (t .variable) (t .jump) (t .fall) (t .constant) ⌝ }
-    ensures { λ r. ⌜ OpposedOf (t .tests) (t .variable) (t .jump) (t .fall) (t .constant) r ⌝ }
+// The edges that each test's edge by one way conflicts with, that way's relations being `first`.
+fn opposed_edges(first: [u8; 64], t: Tests) -> sets::Edges
+    requires { ⌜ Sized t × (length first ≡ 64) ⌝ }
+    ensures { λ r. ⌜ OpposedOf t first r ⌝ }
 {
     let variable = t.variable;
-    let jump = t.jump;
-    let fall = t.fall;
+    let by_jump = t.jump;
+    let by_fall = t.fall;
     let constant = t.constant;
-    oppose(t.tests, &variable, &jump, &fall, &constant)
-}
-
-fn effects_by(
-    count: usize,
-    blocks: [form::Block; 64],
-    effects: [form::Effect; 256],
-    t: Tests,
-) -> EffectRows
-    requires { ⌜ Sizes (t .variable) (t .jump) (t .fall) (t .constant) ⌝ }
-    ensures { λ r. ⌜ EffectRowsOf (withParts count blocks effects) (t .tests) (t .variable) (t .jump) (t .fall) (t .constant) r ⌝ }
-{
-    let variable = t.variable;
-    let jump = t.jump;
-    let fall = t.fall;
-    let constant = t.constant;
-    effect_rows(
-        count,
-        blocks,
-        effects,
-        t.tests,
-        &variable,
-        &jump,
-        &fall,
-        &constant,
-    )
+    let alike = alike_rows(t.tests, &variable);
+    let jump = opposed_rows(&alike, &first, &by_jump, &constant);
+    let fall = opposed_rows(&alike, &first, &by_fall, &constant);
+    sets::Edges { jump, fall }
 }
 
 pub fn local_of(body: form::Body) -> sets::Local
@@ -341,19 +331,17 @@ pub fn local_of(body: form::Body) -> sets::Local
 {
     let blocks = body.blocks;
     let effects = body.effects;
-    let t = tests_of(body.count, blocks);
-    let targets = targets_of(body.count, blocks);
-    let e = effects_by(body.count, blocks, effects, t);
-    let o = opposed_of(t);
-    let jumping = o.jumping;
-    let falling = o.falling;
-    let deny_jump = e.jump;
-    let deny_fall = e.fall;
+    let columns = columns_of(body.count, blocks);
+    let t = columns.tests;
+    let targets = columns.targets;
+    let owned = columns.owned;
+    let e = effects_by(owned, effects, t);
+    let jump = t.jump;
+    let fall = t.fall;
+    let jumping = opposed_edges(jump, t);
+    let falling = opposed_edges(fall, t);
     let touched = e.touched;
-    let denied = sets::Edges {
-        jump: deny_jump,
-        fall: deny_fall,
-    };
+    let denied = e.denied;
     let tests = t.tests;
     let variable = t.variable;
     sets::Local {

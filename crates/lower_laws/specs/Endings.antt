@@ -1,5 +1,5 @@
--- The exits of a block by its ending: the one split into cases that the other laws cite (`by-ending`, `by-exits`), and where each way leads. Rests on
--- form's Conflict.
+-- The exits of a block by its ending: the one split into cases that the other laws cite (`by-ending`, `by-exits`),
+-- and where each way leads. Rests on form's Conflict.
 use mathlib.Core.Path.{_≡_, refl, sym}
 use mathlib.Core.Logic.{_⊎_, inl, inr}
 use mathlib.Core.Bool.{Bool, true, false, cond, _||_, _&&_, and-false, or-false}
@@ -14,9 +14,11 @@ use Rattle.form.specs.Form.{when}
 use Rattle.form.specs.Conflict.{exitsBy, wayTo}
 
 module _ (jump fall : ℕ) where
-  -- what holds of an ending and its exits: 0 has none, 1 that by jump, 2 and 3 have both, and what is no ending has none
+  -- what holds of an ending and its exits: 0 has none, 1 that by jump, 2 and 3 have both, and what is no ending has
+  -- none
   pub by-ending :
-      (P : ℕ → List (ℕ × ℕ) → Type 0) → P 0 [] → P 1 ((1, jump) ∷ []) → P 2 ((1, jump) ∷ (2, fall) ∷ []) → P 3 ((1, jump) ∷ (2, fall) ∷ [])
+      (P : ℕ → List (ℕ × ℕ) → Type 0) → P 0 [] → P 1 ((1, jump) ∷ []) → P 2 ((1, jump) ∷ (2, fall) ∷ [])
+      → P 3 ((1, jump) ∷ (2, fall) ∷ [])
       → ((above : ℕ) → 3 < above → P above []) → (ending : ℕ) → P ending (exitsBy ending jump fall)
   by-ending P ends goes branches tests none zero = ends
   by-ending P ends goes branches tests none (suc zero) = goes
@@ -25,7 +27,8 @@ module _ (jump fall : ℕ) where
   by-ending P ends goes branches tests none (suc (suc (suc (suc m)))) = none (suc (suc (suc (suc m)))) (omega arith)
 
   -- the same where the ending does not matter
-  pub by-exits : (P : List (ℕ × ℕ) → Type 0) → P [] → P ((1, jump) ∷ []) → P ((1, jump) ∷ (2, fall) ∷ []) → (ending : ℕ) → P (exitsBy ending jump fall)
+  pub by-exits : (P : List (ℕ × ℕ) → Type 0) → P [] → P ((1, jump) ∷ []) → P ((1, jump) ∷ (2, fall) ∷ [])
+      → (ending : ℕ) → P (exitsBy ending jump fall)
   by-exits P no-way one both = by-ending (λ e l. P l) no-way one both both (λ e h. no-way)
 
 -- ---- where the ways lead
@@ -47,15 +50,20 @@ target has to = when has to 64
 -- by the ending: 1 to 3 have a jump, 2 and 3 a fall
 pub ways-lead :
     (ending jump fall : ℕ)
-    → (wayTo 1 (exitsBy ending jump fall) ≡ target (ltb 0 ending && ltb ending 4) jump) × (wayTo 2 (exitsBy ending jump fall) ≡ target (ltb 1 ending && ltb ending 4) fall)
+    → (wayTo 1 (exitsBy ending jump fall) ≡ target (ltb 0 ending && ltb ending 4) jump)
+    × (wayTo 2 (exitsBy ending jump fall) ≡ target (ltb 1 ending && ltb ending 4) fall)
 ways-lead ending jump fall =
-    by-ending jump fall (λ e l. (wayTo 1 l ≡ target (ltb 0 e && ltb e 4) jump) × (wayTo 2 l ≡ target (ltb 1 e && ltb e 4) fall)) (refl, refl) (refl, refl) (refl, refl) (refl, refl) none ending
+    by-ending jump fall (λ e l. (wayTo 1 l ≡ target (ltb 0 e && ltb e 4) jump) ×
+    (wayTo 2 l ≡ target (ltb 1 e && ltb e 4) fall)) (refl, refl) (refl, refl) (refl, refl)
+    (refl, refl) none ending
   where
     none : (e : ℕ) → 3 < e → (64 ≡ target (ltb 0 e && ltb e 4) jump) × (64 ≡ target (ltb 1 e && ltb e 4) fall)
     none e h = let over = le-ltb e 4 h in (rw (over, and-false (ltb 0 e)), rw (over, and-false (ltb 1 e)))
 
 -- some exit has what one of the ways has, where 64 has it not
 pub some-exit : (X : ℕ → Bool) → X 64 ≡ false → (ending jump fall : ℕ)
-    → anyOf (λ o. X (o .1)) (exitsBy ending jump fall) ≡ (X (wayTo 1 (exitsBy ending jump fall)) || X (wayTo 2 (exitsBy ending jump fall)))
+    → anyOf (λ o. X (o .1)) (exitsBy ending jump fall) ≡
+    (X (wayTo 1 (exitsBy ending jump fall)) || X (wayTo 2 (exitsBy ending jump fall)))
 some-exit X none ending jump fall =
-    by-exits jump fall (λ l. anyOf (λ o. X (o .1)) l ≡ (X (wayTo 1 l) || X (wayTo 2 l))) (rw none) (rw none) (rw (or-false (X fall))) ending
+    by-exits jump fall (λ l. anyOf (λ o. X (o .1)) l ≡ (X (wayTo 1 l) || X (wayTo 2 l))) (rw none) (rw none)
+    (rw (or-false (X fall))) ending

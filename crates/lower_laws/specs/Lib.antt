@@ -1,5 +1,5 @@
--- Laws of the relations of document 01, the count of a loop in closed form, and the laws of conditions, effects, clean paths and the conflict list. No
--- definition here is trusted.
+-- Laws of the relations of document 01, the count of a loop in closed form, and the laws of conditions, effects,
+-- clean paths and the conflict list. No definition here is trusted.
 pub mod Relations
 pub mod Steps
 pub mod Loops

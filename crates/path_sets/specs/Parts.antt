@@ -1,5 +1,5 @@
--- What the private functions' contracts say of the words and lists that they pass on. Rests on sets' Local, on words.Filled and on
--- lower_laws' Joined.
+-- What the private functions' contracts say of the words and lists that they pass on. Rests on sets' Local, on
+-- words.Filled and on lower_laws' Joined.
 use mathlib.Core.Path.{_≡_}
 use mathlib.Core.Bool.{Bool, true, false, not, _&&_, _||_}
 use mathlib.Core.List.{List}
@@ -12,7 +12,6 @@ use Rattle.form.specs.declared.Body.{Body}
 use Rattle.form.specs.Conflict.{block, assigned}
 use Rattle.lower_laws.specs.Joined.{byWay}
 use Rattle.sets.specs.declared.Firsts.{Firsts}
-use Rattle.sets.specs.declared.Edges.{Edges}
 use Rattle.sets.specs.declared.Found.{Found}
 use Rattle.sets.specs.Local.{Above}
 use Rattle.path_sets.specs.declared.Reach.{Reach}
@@ -28,7 +27,8 @@ ListedAt firsts b x = (j : ℕ) → bit x j ≡ any b (λ f. bit (getD firsts j 
 -- for each b, those j whose lowest first is b
 pub record LowestFirsts (firsts l : List ℕ) : Type 0 where
   pub size : length l ≡ 64
-  pub at : (b : ℕ) → b < 64 → (j : ℕ) → any (b + 1) (λ f. bit (getD firsts j 0) f) ≡ (any b (λ f. bit (getD firsts j 0) f) || bit (getD l b 0) j)
+  pub at : (b : ℕ) → b < 64 → (j : ℕ)
+      → any (b + 1) (λ f. bit (getD firsts j 0) f) ≡ (any b (λ f. bit (getD firsts j 0) f) || bit (getD l b 0) j)
 
 -- lists with a place for each block, and ways that lead upward
 pub record Ways (jump fall touched : List ℕ) : Type 0 where
@@ -40,20 +40,25 @@ pub record Ways (jump fall touched : List ℕ) : Type 0 where
 
 -- P holds for the blocks from which a path leads to s through blocks that do not touch test s
 pub record Paths (jump fall touched : List ℕ) (s : ℕ) (P : ℕ → Bool) : Type 0 where
-  pub step : (b : ℕ) → b ≤ s → P b ≡ (not (bit (getD touched b 0) s) && (eqb b s || (P (getD jump b 64) || P (getD fall b 64))))
+  pub step : (b : ℕ) → b ≤ s → P b ≡ (not (bit (getD touched b 0) s) &&
+      (eqb b s || (P (getD jump b 64) || P (getD fall b 64))))
   pub top : (b : ℕ) → s < b → P b ≡ false
 
 -- the blocks from which a way leads to such a path
 abbrev pub Leading : (jump fall touched : List ℕ) → ℕ → (targets : List ℕ) → ℕ → Type 0
-Leading jump fall touched s targets x = (P : ℕ → Bool) → Paths jump fall touched s P → (j : ℕ) → bit x j ≡ P (getD targets j 64)
+Leading jump fall touched s targets x = (P : ℕ → Bool) → Paths jump fall touched s P → (j : ℕ)
+    → bit x j ≡ P (getD targets j 64)
 
--- the firsts of the edge of block s by one way: the blocks of its assignments, and those that lead to it by one of their ways
+-- the firsts of the edge of block s by one way: the blocks of its assignments, and those that lead to it by one of
+-- their ways
 abbrev pub AssignedAt : (jump fall touched denied : List ℕ) → (s x : ℕ) → Type 0
 AssignedAt jump fall touched denied s x =
-    (P : ℕ → Bool) → Paths jump fall touched s P → (j : ℕ) → bit x j ≡ (bit (getD denied j 0) s && ((P (getD jump j 64) || P (getD fall j 64)) || eqb j s))
+    (P : ℕ → Bool) → Paths jump fall touched s P → (j : ℕ)
+    → bit x j ≡ (bit (getD denied j 0) s && ((P (getD jump j 64) || P (getD fall j 64)) || eqb j s))
 
 abbrev pub LedAt : (jump fall touched opposed targets : List ℕ) → (s x : ℕ) → Type 0
-LedAt jump fall touched opposed targets s x = (P : ℕ → Bool) → Paths jump fall touched s P → (j : ℕ) → bit x j ≡ (bit (getD opposed s 0) j && P (getD targets j 64))
+LedAt jump fall touched opposed targets s x = (P : ℕ → Bool) → Paths jump fall touched s P → (j : ℕ)
+    → bit x j ≡ (bit (getD opposed s 0) j && P (getD targets j 64))
 
 pub record ReachOf (jump fall touched denied : List ℕ) (s : ℕ) (r : Reach) : Type 0 where
   pub jumps : Leading jump fall touched s jump (r .jump)
@@ -73,14 +78,11 @@ pub record FirstsOf (tests : ℕ) (jump fall touched denied jumping falling : Li
   pub jumps : Told 0 (OnTest tests (LedAt jump fall touched jumping jump)) 64 64 (p .jump)
   pub falls : Told 0 (OnTest tests (LedAt jump fall touched falling fall)) 64 64 (p .fall)
 
--- for each b, the edges that have a first below b
-pub record ListedOf (jumped fallen : Firsts) (r : Edges) : Type 0 where
-  pub by-jump : List ℕ
-  pub by-fall : List ℕ
-  pub all-jump : Told 0 (EitherAt (jumped .assigned) (jumped .jump) (jumped .fall)) 64 64 by-jump
-  pub all-fall : Told 0 (EitherAt (fallen .assigned) (fallen .jump) (fallen .fall)) 64 64 by-fall
-  pub jumps : Told 0 (ListedAt by-jump) 64 64 (r .jump)
-  pub falls : Told 0 (ListedAt by-fall) 64 64 (r .fall)
+-- for each b, the edges by one way that have a first below b
+pub record ListedBy (p : Firsts) (r : List ℕ) : Type 0 where
+  pub all : List ℕ
+  pub firsts : Told 0 (EitherAt (p .assigned) (p .jump) (p .fall)) 64 64 all
+  pub lists : Told 0 (ListedAt all) 64 64 r
 
 -- bits of a row b that has a word for each block
 abbrev pub Bits : (ℕ → ℕ → Bool) → ℕ → ℕ → Type 0

@@ -1,4 +1,5 @@
--- The loop that finds clean paths to a block, from the block down: where it stands, its start, its turn and its end. Rests on Parts.
+-- The loop that finds clean paths to a block, from the block down: where it stands, its start, its turn and its end.
+-- Rests on Parts.
 use mathlib.Core.Path.{_≡_, sym, ap, _∙_}
 use mathlib.Core.Logic.{_⊎_, inl, inr}
 use mathlib.Core.Bool.{Bool, false, not, _&&_, _||_, and-false}
@@ -34,7 +35,8 @@ module _ (jump fall touched denied : List ℕ) (s : ℕ) where
     pub fall-at : (P : ℕ → Bool) → Paths jump fall touched s P → Downto (λ j. P (getD fall j 64)) b by-fall
     pub assigned-at : (P : ℕ → Bool) → Paths jump fall touched s P → Downto (assigns P) b assigned
 
-  pub reaching-end : (clean by-jump by-fall assigned : ℕ) → Reaching 0 clean by-jump by-fall assigned → ReachOf jump fall touched denied s (record { jump = by-jump; fall = by-fall; assigned = assigned })
+  pub reaching-end : (clean by-jump by-fall assigned : ℕ) → Reaching 0 clean by-jump by-fall assigned
+      → ReachOf jump fall touched denied s (record { jump = by-jump; fall = by-fall; assigned = assigned })
   reaching-end clean by-jump by-fall assigned r = record {
     jumps = λ P w. downto-end (λ j. P (getD jump j 64)) by-jump (r .jump-at P w);
     falls = λ P w. downto-end (λ j. P (getD fall j 64)) by-fall (r .fall-at P w);
@@ -51,35 +53,54 @@ module _ (jump fall touched denied : List ℕ) (s : ℕ) where
     pub reaching-none : Reaching (s + 1) 0 0 0 0
     reaching-none = record {
       clean-at = λ P w. downto-none P (s + 1) (λ j l. w .top j (omega arith));
-      jump-at = λ P w. downto-none (λ j. P (getD jump j 64)) (s + 1) (λ j l. w .top (getD jump j 64) (led-past j (omega arith)));
-      fall-at = λ P w. downto-none (λ j. P (getD fall j 64)) (s + 1) (λ j l. w .top (getD fall j 64) (fallen-past j (omega arith)));
+      jump-at = λ P w. downto-none (λ j. P (getD jump j 64)) (s + 1)
+          (λ j l. w .top (getD jump j 64) (led-past j (omega arith)));
+      fall-at = λ P w. downto-none (λ j. P (getD fall j 64)) (s + 1)
+          (λ j l. w .top (getD fall j 64) (fallen-past j (omega arith)));
       assigned-at = λ P w. downto-none (assigns P) (s + 1) (λ j l. none P w j (omega arith));
     }
       where
         none : (P : ℕ → Bool) → Paths jump fall touched s P → (j : ℕ) → s < j → assigns P j ≡ false
         none P w j l =
-            rw (w .top (getD jump j 64) (led-past j l), w .top (getD fall j 64) (fallen-past j l), ne-eqb j s (apart j l)) (and-false (bit (getD denied j 0) s))
+            rw (
+              w .top (getD jump j 64) (led-past j l),
+              w .top (getD fall j 64) (fallen-past j l),
+              ne-eqb j s
+                  (apart j l),
+            ) (and-false (bit (getD denied j 0) s))
           where
             apart : (j : ℕ) → s < j → j ≡ s → ⊥
             apart j l e = omega arith
 
-    module _ (b clean by-jump by-fall assigned clean′ by-jump′ by-fall′ assigned′ : ℕ) (t d j f : Bool) (low : b ≤ s) (r : Reaching (b + 1) clean by-jump by-fall assigned)
-        (ej : j ≡ bit clean (getD jump b 0)) (ef : f ≡ bit clean (getD fall b 0)) (et : t ≡ bit (getD touched b 0) s) (ed : d ≡ bit (getD denied b 0) s)
+    module _ (b clean by-jump by-fall assigned clean′ by-jump′ by-fall′ assigned′ : ℕ) (t d j f : Bool) (low : b ≤ s)
+        (r : Reaching (b + 1) clean by-jump by-fall assigned)
+        (ej : j ≡ bit clean (getD jump b 0)) (ef : f ≡ bit clean (getD fall b 0)) (et : t ≡ bit (getD touched b 0) s)
+        (ed : d ≡ bit (getD denied b 0) s)
         (new-clean : (k : ℕ) → bit clean′ k ≡ bit clean k || ((not t && (eqb b s || (j || f))) && eqb k b))
-        (new-jump : (k : ℕ) → bit by-jump′ k ≡ bit by-jump k || (j && eqb k b)) (new-fall : (k : ℕ) → bit by-fall′ k ≡ bit by-fall k || (f && eqb k b))
+        (new-jump : (k : ℕ) → bit by-jump′ k ≡ bit by-jump k || (j && eqb k b))
+        (new-fall : (k : ℕ) → bit by-fall′ k ≡ bit by-fall k || (f && eqb k b))
         (new-assigned : (k : ℕ) → bit assigned′ k ≡ bit assigned k || ((d && ((j || f) || eqb b s)) && eqb k b)) where
       -- a target's bit is there already
-      by : (targets : List ℕ) → length targets ≡ 64 → Above targets → (P : ℕ → Bool) → Paths jump fall touched s P → bit clean (getD targets b 0) ≡ P (getD targets b 64)
+      by : (targets : List ℕ) → length targets ≡ 64 → Above targets → (P : ℕ → Bool) → Paths jump fall touched s P
+          → bit clean (getD targets b 0) ≡ P (getD targets b 64)
       by targets size up P w =
           ap (bit clean) (within targets b 0 64 (omega arith)) ∙ r .clean-at P w (getD targets b 64)
-          ∙ ap (λ (a : Bool). a && P (getD targets b 64)) (le-leb (b + 1) (getD targets b 64) (omega (arith, up b (omega arith))))
+          ∙ ap (λ (a : Bool). a && P (getD targets b 64))
+          (le-leb (b + 1) (getD targets b 64) (omega (arith, up b (omega arith))))
 
       pub reaching-more : Reaching b clean′ by-jump′ by-fall′ assigned′
       reaching-more = record {
         clean-at = λ P w. downto-more P b clean clean′ (not t && (eqb b s || (j || f))) (r .clean-at P w)
-            ((λ i. not (et i) && (eqb b s || ((ej ∙ by jump (ways .jumps) (ways .jumps-above) P w) i || (ef ∙ by fall (ways .falls) (ways .falls-above) P w) i))) ∙ sym (w .step b low)) new-clean;
-        jump-at = λ P w. downto-more (λ k. P (getD jump k 64)) b by-jump by-jump′ j (r .jump-at P w) (ej ∙ by jump (ways .jumps) (ways .jumps-above) P w) new-jump;
-        fall-at = λ P w. downto-more (λ k. P (getD fall k 64)) b by-fall by-fall′ f (r .fall-at P w) (ef ∙ by fall (ways .falls) (ways .falls-above) P w) new-fall;
-        assigned-at = λ P w. downto-more (assigns P) b assigned assigned′ (d && ((j || f) || eqb b s)) (r .assigned-at P w)
-            (λ i. ed i && (((ej ∙ by jump (ways .jumps) (ways .jumps-above) P w) i || (ef ∙ by fall (ways .falls) (ways .falls-above) P w) i) || eqb b s)) new-assigned;
+            ((λ i. not (et i) && (eqb b s ||
+            ((ej ∙ by jump (ways .jumps) (ways .jumps-above) P w) i ||
+            (ef ∙ by fall (ways .falls) (ways .falls-above) P w) i))) ∙ sym (w .step b low)) new-clean;
+        jump-at = λ P w. downto-more (λ k. P (getD jump k 64)) b by-jump by-jump′ j (r .jump-at P w)
+            (ej ∙ by jump (ways .jumps) (ways .jumps-above) P w) new-jump;
+        fall-at = λ P w. downto-more (λ k. P (getD fall k 64)) b by-fall by-fall′ f (r .fall-at P w)
+            (ef ∙ by fall (ways .falls) (ways .falls-above) P w) new-fall;
+        assigned-at = λ P w. downto-more (assigns P) b assigned assigned′ (d && ((j || f) || eqb b s))
+            (r .assigned-at P w)
+            (λ i. ed i &&
+            (((ej ∙ by jump (ways .jumps) (ways .jumps-above) P w) i ||
+            (ef ∙ by fall (ways .falls) (ways .falls-above) P w) i) || eqb b s)) new-assigned;
       }

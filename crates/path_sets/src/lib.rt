@@ -1,5 +1,6 @@
-// What paths join of a body: from what its blocks say by themselves (sets' Local) the sets of edges that the walks need, and for each edge the firsts that the conflict
-// list pairs with it. The meaning is in sets' Found and in form's Conflict.
+// What paths join of a body: from what its blocks say by themselves (sets' Local) the sets of edges that the walks
+// need, and for each edge the firsts that the conflict list pairs with it. The meaning is in sets' Found and in
+// form's Conflict.
 ghost use mathlib.Core.Path.{_≡_};
 ghost use mathlib.Core.Bool.{true, false};
 ghost use Prim.Native.Nat.{_<_};
@@ -7,17 +8,19 @@ ghost use lib.ListN.{length};
 ghost use Rattle.words.specs.Filled.{Told};
 ghost use Rattle.sets.specs.Local.{EdgesSized, Worded};
 ghost use Rattle.sets.specs.Found.{SetsFrom, FoundFrom};
-ghost use Rattle.path_sets.specs.Parts.{EitherAt, ListedAt, LowestFirsts, Ways, noReach, ReachOf, FirstsOf, ListedOf};
+ghost use Rattle.path_sets.specs.Parts.{EitherAt, ListedAt, LowestFirsts, Ways, noReach, ReachOf, FirstsOf};
+ghost use Rattle.path_sets.specs.Parts.{ListedBy};
 
-// The blocks from which a jump, and those from which a fall, leads to a clean path to a test; and those whose effects deny the test's edge by one way and
-// from which such a path leads, or which are its own.
+// The blocks from which a jump, and those from which a fall, leads to a clean path to a test; and those whose effects
+// deny the test's edge by one way and from which such a path leads, or which are its own.
 struct Reach {
     jump: u64,
     fall: u64,
     assigned: u64,
 }
 
-// From which blocks a jump or a fall leads to s by a path that does not touch test s, and which assign against its edge: the blocks from s down.
+// From which blocks a jump or a fall leads to s by a path that does not touch test s, and which assign against its
+// edge: the blocks from s down.
 fn reach_of(jump: &[usize], fall: &[usize], touched: &[u64], denied: &[u64], s: usize) -> Reach
     requires { ⌜ Ways (now jump) (now fall) (now touched) × ((length (now denied) ≡ 64) × (s < 64)) ⌝ }
     ensures { λ r. ⌜ ReachOf (now (jump .entry)) (now (fall .entry)) (now (touched .entry)) (now (denied .entry)) s r ⌝ }
@@ -114,7 +117,8 @@ fn listed_rows(firsts: &[u64]) -> [u64; 64]
     r
 }
 
-// The firsts of the edges by one way, from the edges that each block's effects deny and those that each edge opposes, by jump and by fall.
+// The firsts of the edges by one way, from the edges that each block's effects deny and those that each edge opposes,
+// by jump and by fall.
 fn firsts_of(
     tests: u64,
     jump: &[usize],
@@ -162,23 +166,19 @@ fn firsts_by(
     firsts_of(tests, &jump, &fall, &touched, &denied, &jumping, &falling)
 }
 
-fn listed_of(jumped: sets::Firsts, fallen: sets::Firsts) -> sets::Edges
-    ensures { λ r. ⌜ ListedOf jumped fallen r ⌝ }
+// For each b, the edges by one way that have a first below b.
+fn listed_by(p: sets::Firsts) -> [u64; 64]
+    ensures { λ r. ⌜ ListedBy p r ⌝ }
 {
-    let a = jumped.assigned;
-    let j = jumped.jump;
-    let f = jumped.fall;
-    let by_jump = all_firsts(&a, &j, &f);
-    let jump = listed_rows(&by_jump);
-    let c = fallen.assigned;
-    let k = fallen.jump;
-    let g = fallen.fall;
-    let by_fall = all_firsts(&c, &k, &g);
-    let fall = listed_rows(&by_fall);
-    sets::Edges { jump, fall }
+    let a = p.assigned;
+    let j = p.jump;
+    let f = p.fall;
+    let all = all_firsts(&a, &j, &f);
+    listed_rows(&all)
 }
 
-// All that is found of a body, from what its blocks say by themselves: the crate listing reads the conflict list off it.
+// All that is found of a body, from what its blocks say by themselves: the crate listing reads the conflict list off
+// it.
 pub fn find(local: sets::Local) -> sets::Found
     requires { ⌜ Worded local ⌝ }
     ensures { λ r. ⌜ FoundFrom local r ⌝ }
@@ -193,7 +193,9 @@ pub fn find(local: sets::Local) -> sets::Found
     let deny_fall = denied.fall;
     let jumped = firsts_by(tests, targets, touched, deny_jump, jumping);
     let fallen = firsts_by(tests, targets, touched, deny_fall, falling);
-    let listed = listed_of(jumped, fallen);
+    let jump = listed_by(jumped);
+    let fall = listed_by(fallen);
+    let listed = sets::Edges { jump, fall };
     let sets = sets::Sets {
         targets,
         touched,

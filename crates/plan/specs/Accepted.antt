@@ -1,4 +1,5 @@
--- What an accepted form's body owes the walks, and that what a call owes leaves one outcome. Rests on Owed, Plan and roundtrip's Sound.
+-- What an accepted form's body owes the walks, and that what a call owes leaves one outcome. Rests on Owed, Plan and
+-- roundtrip's Sound.
 use mathlib.Core.Path.{_≡_, refl, sym, ap, subst, _∙_}
 use mathlib.Core.Bool.{Bool, true, false, _||_}
 use mathlib.Core.List.{List, [], _∷_}
@@ -52,12 +53,15 @@ module _ {A : Type 0} (s : List ℕ) (refused-by : ℕ → ℕ → A) (with : �
   owed-once x y (counted j n c e) (no-form m q k f) = absurd (refused (sym k ∙ j))
   owed-once x y (counted j n c e) (no-count k none f) = absurd (none n c)
   owed-once x y (counted j n c e) (counted k m d f) =
-      e ∙ ap with (count-once 1 (bodyOf s .counter .initial) (bodyOf s .counter .step) (bodyOf s .counter .relation) (bodyOf s .counter .limit) n m c d) ∙ sym f
+      e ∙ ap with
+      (count-once 1 (bodyOf s .counter .initial) (bodyOf s .counter .step) (bodyOf s .counter .relation)
+      (bodyOf s .counter .limit) n m c d) ∙ sym f
 
 -- ---- from the counter's answer
 
 abbrev pub CounterOwed : Counter → Counted → Type 0
-CounterOwed counter answer = Counter·Owed (counter .initial) (counter .step) (counter .relation) (counter .limit) (said answer)
+CounterOwed counter answer =
+    Counter·Owed (counter .initial) (counter .step) (counter .relation) (counter .limit) (said answer)
 
 module _ (s : List ℕ) (a : judge s ≡ Accepted) where
   known : 5 < bodyOf s .counter .relation → ⊥
@@ -66,8 +70,10 @@ module _ (s : List ℕ) (a : judge s ≡ Accepted) where
   pub no-count-owed : (number place : ℕ) → CounterOwed (bodyOf s .counter) (NoCount number place)
       → ((k : ℕ) → CountOf (bodyOf s .counter) k → ⊥) × (number ≡ 20) × (place ≡ 0)
   no-count-owed number place (no-relation h e) = absurd (known h)
-  no-count-owed number place (without l never e) = (never, ap (λ (v : Values). v .number) e, ap (λ (v : Values). v .place) e)
-  no-count-owed number place (with-count l k c e) = absurd (omega (arith, c .enough, ap (λ (v : Values). v .iterations) e))
+  no-count-owed number place (without l never e) =
+      (never, ap (λ (v : Values). v .number) e, ap (λ (v : Values). v .place) e)
+  no-count-owed number place (with-count l k c e) =
+      absurd (omega (arith, c .enough, ap (λ (v : Values). v .iterations) e))
 
   pub count-owed : (k : ℕ) → CounterOwed (bodyOf s .counter) (Iterations k) → CountOf (bodyOf s .counter) k
   count-owed k (no-relation h e) = absurd (known h)
@@ -86,4 +92,8 @@ cost-range s a = record {
 
 -- the bound fits a word
 pub product : (count weight : ℕ) → count < 4294967296 → weight ≤ costLimit → Fits w64 (count * weight)
-product count weight h l = record { fits = lt-of-le-of-lt (le-trans (mul-le-mul-right weight (le-of-lt h)) (mul-le-mul-left 4294967296 l)) (lit< tt) }
+product count weight h l =
+    record {
+      fits =
+          lt-of-le-of-lt (le-trans (mul-le-mul-right weight (le-of-lt h)) (mul-le-mul-left 4294967296 l)) (lit< tt);
+    }

@@ -1,5 +1,6 @@
--- What a call owes that reads a form and asks for its loop count, after document 01, 'Refusal numbers' and 'Counted loops'. Trusted: a definition only. Rests on
--- form's Form (what the reader says, and the body) and Counter (the count).
+-- What a call owes that reads a form and asks for its loop count, after document 01, 'Refusal numbers' and 'Counted
+-- loops'. Trusted: a definition only. Rests on form's Form (what the reader says, and the body) and Counter (the
+-- count).
 use mathlib.Core.Path.{_≡_}
 use mathlib.Core.List.{List}
 use Prim.Native.Nat.{ℕ}
@@ -12,8 +13,13 @@ use Rattle.form.specs.Counter.{Count}
 abbrev pub CountOf : Counter → ℕ → Type 0
 CountOf counter k = Count (counter .initial) (counter .step) (counter .relation) (counter .limit) k
 
--- The form's refusal (10 to 19); else 20 at 0 where no count exists; else what is owed with the count. `refused` makes an outcome of a refusal's number and place.
-pub data Owed {A : Type 0} (s : List ℕ) (refused : (number place : ℕ) → A) (with : (count : ℕ) → A) (outcome : A) : Type 0 where
-  no-form : (number place : ℕ) → judge s ≡ Refused number place → outcome ≡ refused number place → Owed s refused with outcome
-  no-count : judge s ≡ Accepted → ((k : ℕ) → CountOf (bodyOf s .counter) k → ⊥) → outcome ≡ refused 20 0 → Owed s refused with outcome
-  counted : judge s ≡ Accepted → (k : ℕ) → CountOf (bodyOf s .counter) k → outcome ≡ with k → Owed s refused with outcome
+-- The form's refusal (10 to 19); else 20 at 0 where no count exists; else what is owed with the count. `refused` makes
+-- an outcome of a refusal's number and place.
+pub data Owed {A : Type 0} (s : List ℕ) (refused : (number place : ℕ) → A) (with : (count : ℕ) → A)
+    (outcome : A) : Type 0 where
+  no-form : (number place : ℕ) → judge s ≡ Refused number place → outcome ≡ refused number place
+      → Owed s refused with outcome
+  no-count : judge s ≡ Accepted → ((k : ℕ) → CountOf (bodyOf s .counter) k → ⊥) → outcome ≡ refused 20 0
+      → Owed s refused with outcome
+  counted : judge s ≡ Accepted → (k : ℕ) → CountOf (bodyOf s .counter) k → outcome ≡ with k
+      → Owed s refused with outcome

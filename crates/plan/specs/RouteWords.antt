@@ -1,4 +1,5 @@
--- A route's bytes from its two sets of blocks, and the loop that writes them. Rests on the laws' Terms; theory's `bytes-words` says that they are the route's.
+-- A route's bytes from its two sets of blocks, and the loop that writes them. Rests on the laws' Terms; theory's
+-- `bytes-words` says that they are the route's.
 use mathlib.Core.Path.{_≡_, refl, ap, sym, _∙_}
 use mathlib.Core.Bool.{cond}
 use mathlib.Core.List.{List, _++_, map}
@@ -44,9 +45,11 @@ module _ (count jumped fallen : ℕ) where
     pub size : length held ≡ length lent
 
   pub written-none : (lent : List ℕ) → Written lent lent 0
-  written-none lent = record { held-is = paste-zero lent 0 (bytesOf count jumped fallen); below = omega arith; size = refl }
+  written-none lent =
+      record { held-is = paste-zero lent 0 (bytesOf count jumped fallen); below = omega arith; size = refl }
 
-  pub written-more : (lent held : List ℕ) (b v : ℕ) → count ≤ length lent → b < count → v ≡ byteOf count jumped fallen b → Written lent held b → Written lent (set held b v) (b + 1)
+  pub written-more : (lent held : List ℕ) (b v : ℕ) → count ≤ length lent → b < count
+      → v ≡ byteOf count jumped fallen b → Written lent held b → Written lent (set held b v) (b + 1)
   written-more lent held b v room h e w =
       record {
         held-is =
@@ -58,16 +61,22 @@ module _ (count jumped fallen : ℕ) where
       stores : {l m : List ℕ} {x y : ℕ} → l ≡ m → x ≡ y → set l b x ≡ set m b y
       stores p q = λ i. set (p i) b (q i)
 
-      stored : set (paste lent 0 (bytesOf count jumped fallen) b) b (getD (bytesOf count jumped fallen) b 0) ≡ paste lent 0 (bytesOf count jumped fallen) (b + 1)
+      stored : set (paste lent 0 (bytesOf count jumped fallen) b) b (getD (bytesOf count jumped fallen) b 0)
+          ≡ paste lent 0 (bytesOf count jumped fallen) (b + 1)
       stored =
-          ap (λ n. set (paste lent 0 (bytesOf count jumped fallen) b) n (getD (bytesOf count jumped fallen) b 0)) (sym (zero-add b))
+          ap (λ n. set (paste lent 0 (bytesOf count jumped fallen) b) n (getD (bytesOf count jumped fallen) b 0))
+          (sym (zero-add b))
           ∙ paste-suc lent 0 (bytesOf count jumped fallen) b 0 (omega arith) (omega (arith, bytes-length))
           ∙ ap (paste lent 0 (bytesOf count jumped fallen)) (sym (add-one b))
 
-  pub written-all : (lent held : List ℕ) (b : ℕ) → count ≤ b → Written lent held b → held ≡ bytesOf count jumped fallen ++ drop count lent
+  pub written-all : (lent held : List ℕ) (b : ℕ) → count ≤ b → Written lent held b
+      → held ≡ bytesOf count jumped fallen ++ drop count lent
   written-all lent held b h w =
       let e : b ≡ count = omega (arith, w .below) in
       w .held-is ∙ ap (paste lent 0 (bytesOf count jumped fallen)) e ∙ whole
     where
       whole : paste lent 0 (bytesOf count jumped fallen) count ≡ bytesOf count jumped fallen ++ drop count lent
-      whole = λ i. (ap (λ n. take n (bytesOf count jumped fallen)) (sym bytes-length) ∙ take-length (bytesOf count jumped fallen)) i ++ drop (zero-add count i) lent
+      whole =
+          λ i.
+          (ap (λ n. take n (bytesOf count jumped fallen)) (sym bytes-length)
+          ∙ take-length (bytesOf count jumped fallen)) i ++ drop (zero-add count i) lent

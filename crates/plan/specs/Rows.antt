@@ -1,4 +1,5 @@
--- A list whose rows are those of a sound body's sets is its plan. Rests on Plan, and on sets' Found, whose words the rows are.
+-- A list whose rows are those of a sound body's sets is its plan. Rests on Plan, and on sets' Found, whose words the
+-- rows are.
 use mathlib.Core.Bool.{Bool, true, false, cond, _&&_}
 use mathlib.Core.List.{List, [], _∷_, _++_}
 use mathlib.Core.Logic.{inl, inr, ⊎-elim}
@@ -77,16 +78,20 @@ paste-before d s at n i h l =
     List·getD-append (take at d ++ take n s) (drop (at + n) d) 0 i (simp length-append (omega arith))
     ∙ (List·getD-append (take at d) (take n s) 0 i here ∙ getD-take at d i 0 h)
 
-paste-in : (d s : List ℕ) (at n i : ℕ) → i < n → n ≤ length s → at ≤ length d → getD (paste d at s n) (at + i) 0 ≡ getD s i 0
+paste-in : (d s : List ℕ) (at n i : ℕ) → i < n → n ≤ length s → at ≤ length d
+    → getD (paste d at s n) (at + i) 0 ≡ getD s i 0
 paste-in d s at n i h l m =
     let size = length-take-le at d m in
     let some = length-take-le n s l in
-    List·getD-append (take at d ++ take n s) (drop (at + n) d) 0 (at + i) (simp length-append (omega (arith, size, some)))
-    ∙ (subst (λ (k : ℕ). getD (take at d ++ take n s) (k + i) 0 ≡ getD (take n s) i 0) size (getD-append-add (take at d) (take n s) i 0)
+    List·getD-append (take at d ++ take n s) (drop (at + n) d) 0 (at + i)
+    (simp length-append (omega (arith, size, some)))
+    ∙ (subst (λ (k : ℕ). getD (take at d ++ take n s) (k + i) 0 ≡ getD (take n s) i 0) size
+    (getD-append-add (take at d) (take n s) i 0)
     ∙ getD-take n s i 0 h)
 
 pub rows-more :
-    (row : ℕ → List ℕ) (b : ℕ) (plan words : List ℕ) → length words ≡ 16 → 16 * b + 16 ≤ length plan → words ≡ row b → Rows row b plan
+    (row : ℕ → List ℕ) (b : ℕ) (plan words : List ℕ) → length words ≡ 16 → 16 * b + 16 ≤ length plan → words ≡ row b
+    → Rows row b plan
     → Rows row (b + 1) (paste plan (16 * b) words 16)
 rows-more row b plan words size room e read c w h l = ⊎-elim below here (below-or-not c b)
   where
@@ -140,10 +145,12 @@ module _ (body : Body) (b : ℕ) (h : b < 64) where
 -- what the two targets stand for are the exits
 exits-back :
     (ending jump fall : ℕ) → ((o : ℕ × ℕ) → Mem o (exitsBy ending jump fall) → o .1 < 64)
-    → exitsBy ending jump fall ≡ exitBy 1 (wayTo 1 (exitsBy ending jump fall)) ++ exitBy 2 (wayTo 2 (exitsBy ending jump fall))
+    → exitsBy ending jump fall
+    ≡ exitBy 1 (wayTo 1 (exitsBy ending jump fall)) ++ exitBy 2 (wayTo 2 (exitsBy ending jump fall))
 exits-back zero jump fall h = refl
 exits-back (suc zero) jump fall h = rw (lt-ltb jump 64 (h (1, jump) (inl refl)))
-exits-back (suc (suc zero)) jump fall h = rw (lt-ltb jump 64 (h (1, jump) (inl refl)), lt-ltb fall 64 (h (2, fall) (inr (inl refl))))
+exits-back (suc (suc zero)) jump fall h =
+    rw (lt-ltb jump 64 (h (1, jump) (inl refl)), lt-ltb fall 64 (h (2, fall) (inr (inl refl))))
 exits-back (suc (suc (suc zero))) jump fall h =
     rw (lt-ltb jump 64 (h (1, jump) (inl refl)), lt-ltb fall 64 (h (2, fall) (inr (inl refl))))
 exits-back (suc (suc (suc (suc n)))) jump fall h = refl
@@ -175,23 +182,28 @@ module _ (body : Body) (g : Sound body) where
 
   -- ---- the plan
 
-  module _ (plan : List ℕ) (size : length plan ≡ 1024) (read : (b w : ℕ) → b < body .count → w < 16 → wordAt plan b w ≡ getD (rowAt body b) w 0) where
+  module _ (plan : List ℕ) (size : length plan ≡ 1024)
+      (read : (b w : ℕ) → b < body .count → w < 16 → wordAt plan b w ≡ getD (rowAt body b) w 0) where
     -- a word that is a set of blocks
-    within-word : (b w : ℕ) (f : ℕ → Bool) → b < body .count → w < 16 → getD (rowAt body b) w 0 ≡ setOf 64 f → (k : ℕ) → k < body .count → bit (wordAt plan b w) k ≡ f k
+    within-word : (b w : ℕ) (f : ℕ → Bool) → b < body .count → w < 16 → getD (rowAt body b) w 0 ≡ setOf 64 f → (k : ℕ)
+        → k < body .count → bit (wordAt plan b w) k ≡ f k
     within-word b w f h l e k i = ap (λ (x : ℕ). bit x k) (read b w h l ∙ e) ∙ bit-setOf 64 f k (omega (arith, g .few))
 
     past-word : (b w : ℕ) (f : ℕ → Bool) → b < body .count → w < 16 → getD (rowAt body b) w 0 ≡ setOf 64 f
         → ((k : ℕ) → body .count ≤ k → f k ≡ false) → (k : ℕ) → body .count ≤ k → bit (wordAt plan b w) k ≡ false
     past-word b w f h l e none k i =
-        ap (λ (x : ℕ). bit x k) (read b w h l ∙ e) ∙ ⊎-elim (λ m. bit-setOf 64 f k m ∙ none k i) (λ m. bit-setOf-beyond 64 f k m) (below-or-not k 64)
+        ap (λ (x : ℕ). bit x k) (read b w h l ∙ e)
+        ∙ ⊎-elim (λ m. bit-setOf 64 f k m ∙ none k i) (λ m. bit-setOf-beyond 64 f k m) (below-or-not k 64)
 
     ways : (b : ℕ) → b < body .count → exits body b ≡ exitBy 1 (targetAt plan b 1) ++ exitBy 2 (targetAt plan b 2)
     unfolding exits
     ways b h =
         rw (read b 1 h (omega arith), read b 2 h (omega arith))
-        (exits-back (block body b .ending) (block body b .jump) (block body b .fall) (λ o m. omega (arith, g .onward .inside b o m, g .few)))
+        (exits-back (block body b .ending) (block body b .jump) (block body b .fall)
+        (λ o m. omega (arith, g .onward .inside b o m, g .few)))
 
-    touched : (b k : ℕ) → b < body .count → k < body .count → bit (wordAt plan b 3) k ≡ isTest body k && touches body b (condition body (k, 1) .variable)
+    touched : (b k : ℕ) → b < body .count → k < body .count
+        → bit (wordAt plan b 3) k ≡ isTest body k && touches body b (condition body (k, 1) .variable)
     unfolding condition
     touched b k h i = within-word b 3 _ h (omega arith) refl k i
 
@@ -201,26 +213,45 @@ module _ (body : Body) (g : Sound body) where
     within b (suc zero) k low high h i = let z : ⊥ = omega arith in absurd z
     within b (suc (suc zero)) k low high h i = let z : ⊥ = omega arith in absurd z
     within b (suc (suc (suc zero))) k low high h i = past-word b 3 _ h (omega arith) refl (touched-past b) k i
-    within b (suc (suc (suc (suc zero)))) k low high h i = past-word b 4 _ h (omega arith) refl (λ j. denies-past b j 1) k i
-    within b (suc (suc (suc (suc (suc zero))))) k low high h i = past-word b 5 _ h (omega arith) refl (λ j. denies-past b j 2) k i
-    within b (suc (suc (suc (suc (suc (suc zero)))))) k low high h i = past-word b 6 _ h (omega arith) refl (λ j. opposes-past (b, 1) j 1) k i
-    within b (suc (suc (suc (suc (suc (suc (suc zero))))))) k low high h i = past-word b 7 _ h (omega arith) refl (λ j. opposes-past (b, 1) j 2) k i
-    within b (suc (suc (suc (suc (suc (suc (suc (suc zero)))))))) k low high h i = past-word b 8 _ h (omega arith) refl (λ j. opposes-past (b, 2) j 1) k i
-    within b (suc (suc (suc (suc (suc (suc (suc (suc (suc zero))))))))) k low high h i = past-word b 9 _ h (omega arith) refl (λ j. opposes-past (b, 2) j 2) k i
-    within b (suc (suc (suc (suc (suc (suc (suc (suc (suc (suc zero)))))))))) k low high h i = past-word b 10 _ h (omega arith) refl (λ j. listed-past b j 1) k i
-    within b (suc (suc (suc (suc (suc (suc (suc (suc (suc (suc (suc zero))))))))))) k low high h i = past-word b 11 _ h (omega arith) refl (λ j. listed-past b j 2) k i
-    within b (suc (suc (suc (suc (suc (suc (suc (suc (suc (suc (suc (suc w)))))))))))) k low high h i = let z : ⊥ = omega arith in absurd z
+    within b (suc (suc (suc (suc zero)))) k low high h i =
+        past-word b 4 _ h (omega arith) refl (λ j. denies-past b j 1) k i
+    within b (suc (suc (suc (suc (suc zero))))) k low high h i =
+        past-word b 5 _ h (omega arith) refl (λ j. denies-past b j 2) k i
+    within b (suc (suc (suc (suc (suc (suc zero)))))) k low high h i =
+        past-word b 6 _ h (omega arith) refl (λ j. opposes-past (b, 1) j 1) k i
+    within b (suc (suc (suc (suc (suc (suc (suc zero))))))) k low high h i =
+        past-word b 7 _ h (omega arith) refl (λ j. opposes-past (b, 1) j 2) k i
+    within b (suc (suc (suc (suc (suc (suc (suc (suc zero)))))))) k low high h i =
+        past-word b 8 _ h (omega arith) refl (λ j. opposes-past (b, 2) j 1) k i
+    within b (suc (suc (suc (suc (suc (suc (suc (suc (suc zero))))))))) k low high h i =
+        past-word b 9 _ h (omega arith) refl (λ j. opposes-past (b, 2) j 2) k i
+    within b (suc (suc (suc (suc (suc (suc (suc (suc (suc (suc zero)))))))))) k low high h i =
+        past-word b 10 _ h (omega arith) refl (λ j. listed-past b j 1) k i
+    within b (suc (suc (suc (suc (suc (suc (suc (suc (suc (suc (suc zero))))))))))) k low high h i =
+        past-word b 11 _ h (omega arith) refl (λ j. listed-past b j 2) k i
+    within b (suc (suc (suc (suc (suc (suc (suc (suc (suc (suc (suc (suc w)))))))))))) k low high h i = let z : ⊥ =
+        omega arith in absurd z
 
-    denied : (b k : ℕ) → b < body .count → k < body .count → (side : ℕ) → IsWay side → bit (deniedAt plan b side) k ≡ denies body b (k, side)
-    denied b k h i = each-way (λ side. bit (deniedAt plan b side) k ≡ denies body b (k, side)) (within-word b 4 _ h (omega arith) refl k i) (within-word b 5 _ h (omega arith) refl k i)
+    denied : (b k : ℕ) → b < body .count → k < body .count → (side : ℕ) → IsWay side
+        → bit (deniedAt plan b side) k ≡ denies body b (k, side)
+    denied b k h i =
+        each-way (λ side. bit (deniedAt plan b side) k ≡ denies body b (k, side))
+        (within-word b 4 _ h (omega arith) refl k i) (within-word b 5 _ h (omega arith) refl k i)
 
-    against : (b k : ℕ) → b < body .count → k < body .count → (way : ℕ) → IsWay way → (side : ℕ) → IsWay side → bit (againstAt plan b way side) k ≡ opposes body (b, way) (k, side)
-    against b k h i = each-way (λ way. (side : ℕ) → IsWay side → bit (againstAt plan b way side) k ≡ opposes body (b, way) (k, side))
-        (each-way (λ side. bit (againstAt plan b 1 side) k ≡ opposes body (b, 1) (k, side)) (within-word b 6 _ h (omega arith) refl k i) (within-word b 7 _ h (omega arith) refl k i))
-        (each-way (λ side. bit (againstAt plan b 2 side) k ≡ opposes body (b, 2) (k, side)) (within-word b 8 _ h (omega arith) refl k i) (within-word b 9 _ h (omega arith) refl k i))
+    against : (b k : ℕ) → b < body .count → k < body .count → (way : ℕ) → IsWay way → (side : ℕ) → IsWay side
+        → bit (againstAt plan b way side) k ≡ opposes body (b, way) (k, side)
+    against b k h i =
+        each-way (λ way. (side : ℕ) → IsWay side → bit (againstAt plan b way side) k ≡ opposes body (b, way) (k, side))
+        (each-way (λ side. bit (againstAt plan b 1 side) k ≡ opposes body (b, 1) (k, side))
+        (within-word b 6 _ h (omega arith) refl k i) (within-word b 7 _ h (omega arith) refl k i))
+        (each-way (λ side. bit (againstAt plan b 2 side) k ≡ opposes body (b, 2) (k, side))
+        (within-word b 8 _ h (omega arith) refl k i) (within-word b 9 _ h (omega arith) refl k i))
 
-    listed-are : (b k : ℕ) → b < body .count → k < body .count → (side : ℕ) → IsWay side → bit (listedAt plan b side) k ≡ listed (conflicts body) b (k, side)
-    listed-are b k h i = each-way (λ side. bit (listedAt plan b side) k ≡ listed (conflicts body) b (k, side)) (within-word b 10 _ h (omega arith) refl k i) (within-word b 11 _ h (omega arith) refl k i)
+    listed-are : (b k : ℕ) → b < body .count → k < body .count → (side : ℕ) → IsWay side
+        → bit (listedAt plan b side) k ≡ listed (conflicts body) b (k, side)
+    listed-are b k h i =
+        each-way (λ side. bit (listedAt plan b side) k ≡ listed (conflicts body) b (k, side))
+        (within-word b 10 _ h (omega arith) refl k i) (within-word b 11 _ h (omega arith) refl k i)
 
     pub planned : Planned body (stepCost body) plan
     planned =

@@ -13,15 +13,6 @@ use counter::Counted;
 use form::Verdict;
 
 pub mod route;
-pub mod word;
-
-// A way to the end of a body as words: its weight, the blocks left by jump or go, the blocks left by fall.
-#[repr(C)]
-pub struct Way {
-    pub weight: u64,
-    pub jumped: u64,
-    pub fallen: u64,
-}
 
 // A row of words copied into the plan at block b.
 fn put_row(plan: &mut [u64], b: usize, row: &[u64])

@@ -1,13 +1,17 @@
-// The reader of the order form. Every call answers for all bytes. What each function means is in form's Form and Answer.
+// The reader of the order form. Every call answers for all bytes. What each function means is in form's Form and
+// Answer.
 ghost use mathlib.Core.Path.{_≡_};
 ghost use Prim.Native.Nat.{_+_, _<_, _≤_, _^_};
 ghost use lib.ListN.{length};
 ghost use mir.Syntax.{w32};
 ghost use mir.Val.{toZ};
-ghost use Rattle.form.specs.Form.{when, oneIf, byteAt, number2, number4, signed4, kindOf, kindAt, recordsFrom, stray, someTarget, badCounter, badBlock, badEffect, lowTarget, badEnd, farTarget, badField, badTarget, outOfPlace, overLimit, payloadFault, recordFault, endFault, judgeEnds, counterAt, blockAt, effectAt, ownEffects, zeroBlock, zeroEffect, bodyOf, zeroBody};
+ghost use Rattle.form.specs.Form.{when, oneIf, byteAt, number2, number4, signed4, kindOf, kindAt, recordsFrom, stray};
+ghost use Rattle.form.specs.Form.{someTarget, badCounter, badBlock, badEffect, lowTarget, badEnd, farTarget, badField};
+ghost use Rattle.form.specs.Form.{badTarget, outOfPlace, overLimit, payloadFault, recordFault, endFault, judgeEnds};
+ghost use Rattle.form.specs.Form.{counterAt, blockAt, effectAt, ownEffects, zeroBlock, zeroEffect, bodyOf, zeroBody};
 ghost use Rattle.form.specs.Relation.{eqZ};
 ghost use lib.IntN.{pos};
-ghost use Rattle.form.specs.Answer.{accepted, Judged, reading};
+ghost use Rattle.form.specs.Answer.{accepted, Judged, ReadAs};
 use form::Block;
 use form::Body;
 use form::Counter;
@@ -484,7 +488,7 @@ pub fn accepts(verdict: Verdict) -> bool
 
 // The reader, for any bytes: the verdict, and the body of an accepted form.
 pub fn read(s: &[u8]) -> Reading
-    ensures { λ r. ⌜ r ≡ reading (now (s .entry)) ⌝ }
+    ensures { λ r. ⌜ ReadAs (now (s .entry)) r ⌝ }
 {
     let verdict = judge(s);
     if accepts(verdict) {

@@ -1,35 +1,36 @@
--- What follows from the report's promise: one text for every input (`one-report`), which hangs on the front of the input alone (`any-length`); and where there are eight
--- lines, the walk refuses by 41 alone (`only-over`). Rests on Report, on what the two ways owe, and on roundtrip's Front.
+-- What follows from the report's promise: one text for every input (`one-report`), which hangs on the front of the
+-- input alone (`any-length`); and where there are eight lines, the walk refuses by 41 alone (`only-over`), and demand 3
+-- holds of the printed numbers (`report-holds`). Rests on Report, on what the two ways owe, and on roundtrip's Front.
 use mathlib.Core.Bool.{Bool, true, false, cond}
 use mathlib.Core.List.{List}
+use mathlib.Core.Logic.{_⊎_, inl, inr}
 use mathlib.Core.Option.{Option, none, some}
 use mathlib.Core.Path.{_≡_, refl, ap, sym, subst, _∙_}
 use Prim.Native.Nat.{ℕ, _≤_}
 use native.Mathlib.Omega.{arith}
 use borrow.Author.Tests.{ltb-true}
-use lib.Dec.{ltb}
+use lib.Dec.{ltb, lit≤}
 use lib.ListN.{length, take}
-use Rattle.laws.specs.Terms.{heavier}
 use Rattle.form.specs.declared.Body.{Body}
 use Rattle.form.specs.declared.Verdict.the-variants.{Accepted, Refused as Unread}
 use Rattle.form.specs.Form.{judge, bodyOf}
 use Rattle.roundtrip.specs.Front.{front, front-all}
 use Rattle.roundtrip.specs.Sound.{sound}
-use Rattle.theory.specs.Route.{Path, stepCost, bestRoute, walked}
+use Rattle.theory.specs.Route.{Path, dearest, routeOn, stepCost, walked}
+use Rattle.theory.specs.Run.{Run, runCost}
 use Rattle.plan.specs.Owed.{Owed}
 use Rattle.plan.specs.Owed.Owed.{no-form, no-count, counted}
 use Rattle.sweep.specs.declared.SweepAnswer.the-variants.{Routed, Refused as Unswept}
 use Rattle.sweep.specs.Answer as sweep
-use Rattle.sweep.specs.Answer.{OutcomeOver}
-use Rattle.ways.specs.Promise.{Answered}
-use Rattle.walk.specs.declared.WalkAnswer.the-variants.{Refused}
+use Rattle.walk.specs.declared.WalkAnswer.{WalkAnswer}
+use Rattle.walk.specs.declared.WalkAnswer.the-variants.{Walked, Refused}
 use Rattle.walk.specs.Answer as walk
-use Rattle.walk.specs.Promise.{one-walk}
-use Rattle.table.specs.declared.Entry.{Entry}
-use Rattle.table.specs.Answer.{tableWith, under, TableOwed, ownTable}
-use Rattle.table.specs.Uniqueness.{table-answered, own-answered, one-own}
-use Rattle.report.specs.Report.{eightLines, noRoute, budget, Reported}
+use Rattle.rows.specs.declared.Entry.{Entry}
+use Rattle.ways.specs.Answered.{Answered, answered-sound, answered-agree}
+use Rattle.ways.specs.Walk.{walk-answered, one-walk}
+use Rattle.ways.specs.Sweep.{own-answered, one-own}
 use Rattle.text.specs.Text.{refusalLine}
+use Rattle.report.specs.Report.{eightLines, noRoute, budget, Reported}
 use Rattle.report.specs.Report.Reported.{refused, reported}
 
 -- ---- one text
@@ -66,31 +67,45 @@ module _ (s : List ℕ) (n : ℕ) (h : 3682 ≤ n) where
   whole : judge (take n s) ≡ Accepted → take n s ≡ s
   whole a = front-all s n (omega arith) (sym (front n s h) ∙ a)
 
-  owed-front : {A : Type 0} (refuse : ℕ → ℕ → A) (with : Body → ℕ → A) (x : A) → Owed (take n s) refuse (with (bodyOf (take n s))) x → Owed s refuse (with (bodyOf s)) x
+  owed-front : {A : Type 0} (refuse : ℕ → ℕ → A) (with : Body → ℕ → A) (x : A)
+      → Owed (take n s) refuse (with (bodyOf (take n s))) x → Owed s refuse (with (bodyOf s)) x
   owed-front refuse with x (no-form number place j e) = no-form number place (sym (front n s h) ∙ j) e
-  owed-front refuse with x (no-count a never e) = subst (λ (t : List ℕ). Owed t refuse (with (bodyOf t)) x) (whole a) (no-count a never e)
-  owed-front refuse with x (counted a k c e) = subst (λ (t : List ℕ). Owed t refuse (with (bodyOf t)) x) (whole a) (counted a k c e)
+  owed-front refuse with x (no-count a never e) =
+      subst (λ (t : List ℕ). Owed t refuse (with (bodyOf t)) x) (whole a) (no-count a never e)
+  owed-front refuse with x (counted a k c e) =
+      subst (λ (t : List ℕ). Owed t refuse (with (bodyOf t)) x) (whole a) (counted a k c e)
 
-  table-front : (lent : List ℕ) (table : List Entry) (x : OutcomeOver (List Entry)) → TableOwed (take n s) lent table x → TableOwed s lent table x
-  table-front lent table = owed-front (sweep.refused lent table) (λ body. sweep.outcomeOver tableWith under body lent table)
+  sweep-front : (lent : List ℕ) (table : List Entry) (x : sweep.Outcome) → sweep.SweepOwed (take n s) lent table x
+      → sweep.SweepOwed s lent table x
+  sweep-front lent table =
+      owed-front (sweep.refused lent table) (λ body. sweep.sweepOutcome body (dearest body) lent table)
 
   pub any-length : (t : List ℕ) → Reported (take n s) t → Reported s t
-  any-length t (refused number place route (table, o) e) = refused number place route (table, table-front noRoute ownTable (sweep.outcomeOf (Unswept number place) route table) o) e
+  any-length t (refused number place route (table, o) e) =
+      refused number place route
+      (table, sweep-front noRoute sweep.ownTable (sweep.outcomeOf (Unswept number place) route table) o) e
   any-length t (reported i w b k route o a held x e) =
-      subst (λ (f : List ℕ). Reported f t) (whole (own-answered (take n s) noRoute i w b k route o .accepted)) (reported i w b k route o a held x e)
+      subst (λ (f : List ℕ). Reported f t) (whole (own-answered (take n s) noRoute i w b k route o .accepted))
+      (reported i w b k route o a held x e)
 
 -- ---- over
 
-module _ (form : List ℕ) (a : judge form ≡ Accepted) (v : ℕ × Path) (best : bestRoute (bodyOf form) (stepCost (bodyOf form)) heavier ≡ some v) where
+module _ (form : List ℕ) (a : judge form ≡ Accepted) (v : ℕ × Path)
+    (best : routeOn (bodyOf form) (dearest (bodyOf form)) ≡ some v) where
   -- the tests: too few bytes, over the budget; then there is a route
-  by-walk : (lent : List ℕ) (most k number place : ℕ) → 1 ≤ k → 64 ≤ length lent → (held : List ℕ) (short over : Bool) → ltb (length lent) (bodyOf form .count) ≡ short
+  by-walk : (lent : List ℕ) (most k number place : ℕ) → 1 ≤ k → 64 ≤ length lent → (held : List ℕ) (short over : Bool)
+      → ltb (length lent) (bodyOf form .count) ≡ short
       → (o : Option (ℕ × Path)) → o ≡ some v
-      → (walk.refusal number place, held) ≡ cond short (walk.refused lent 42 (bodyOf form .count)) (cond over (walk.refused lent 41 most) (walk.routed (bodyOf form) lent k o))
+      → (walk.refusal number place, held)
+      ≡ cond short (walk.refused lent 42 (bodyOf form .count))
+      (cond over (walk.refused lent 41 most) (walk.routed (bodyOf form) lent k o))
       → (number ≡ 41) × (place ≡ most)
   by-walk lent most k number place l room held true over f o q e =
       let z : ⊥ = omega (arith, ltb-true (length lent) (bodyOf form .count) f, sound form a .few) in absurd z
-  by-walk lent most k number place l room held false true f o q e = (ap (λ (x : walk.Outcome). x .0 .number) e, ap (λ (x : walk.Outcome). x .0 .place) e)
-  by-walk lent most k number place l room held false false f none q e = let z : _≡_ {A = ℕ} 0 1 = nothing q in absurd (omega arith)
+  by-walk lent most k number place l room held false true f o q e =
+      (ap (λ (x : walk.Outcome). x .0 .number) e, ap (λ (x : walk.Outcome). x .0 .place) e)
+  by-walk lent most k number place l room held false false f none q e = let z : _≡_ {A = ℕ} 0 1 =
+      nothing q in absurd (omega arith)
     where
       nothing : {u : ℕ × Path} → none ≡ some u → _≡_ {A = ℕ} 0 1
       nothing q = cc
@@ -98,17 +113,57 @@ module _ (form : List ℕ) (a : judge form ≡ Accepted) (v : ℕ × Path) (best
       let z : 0 ≡ k = ap (λ (x : walk.Outcome). x .0 .iterations) e in absurd (omega arith)
 
 -- where the sweep answers, a walk's refusal is 41 with the budget
-pub only-over : (form lent : List ℕ) (table : List Entry) (most : ℕ) → 64 ≤ length lent → (i w b k : ℕ) (route : List ℕ) (rows : List Entry)
-    → TableOwed form lent table (sweep.outcomeOf (Routed i w b k) route rows)
-    → (number place : ℕ) (held : List ℕ) → walk.WalkOwed form most lent (walk.said (Refused number place), held) → (number ≡ 41) × (place ≡ most)
-only-over form lent table most room i w b k route rows o number place held owed = cases (table-answered form lent table i w b k route rows o) owed
+pub only-over : (form : List ℕ) (most : ℕ) (i w b k : ℕ) (route : List ℕ)
+    → sweep.OwnTableOwed form noRoute (Routed i w b k) route
+    → (number place : ℕ) (held : List ℕ) → walk.WalkOwed form most noRoute (walk.said (Refused number place), held)
+    → (number ≡ 41) × (place ≡ most)
+only-over form most i w b k route o number place held owed = cases (own-answered form noRoute i w b k route o) owed
   where
-    cases : Answered form lent route i w b → walk.WalkOwed form most lent (walk.said (Refused number place), held) → (number ≡ 41) × (place ≡ most)
+    cases : Answered dearest form noRoute route i w b
+        → walk.WalkOwed form most noRoute (walk.said (Refused number place), held) → (number ≡ 41) × (place ≡ most)
     cases s (no-form m q j e) = let z : _≡_ {A = ℕ} 0 1 = unlike (sym (s .accepted) ∙ j) in absurd (omega arith)
       where
         unlike : {m q : ℕ} → Accepted ≡ Unread m q → _≡_ {A = ℕ} 0 1
         unlike e = cc
     cases s (no-count a never e) = absurd (never i (s .counts))
     cases s (counted a c count e) =
-        by-walk form a (s .route) (s .best) lent most c number place (count .enough) room held (ltb (length lent) (bodyOf form .count)) (ltb most (walked (bodyOf form))) refl
-        (bestRoute (bodyOf form) (stepCost (bodyOf form)) heavier) (s .best) e
+        by-walk form a (s .route) (s .best) noRoute most c number place (count .enough) (lit≤ tt) held
+        (ltb (length noRoute) (bodyOf form .count)) (ltb most (walked (bodyOf form))) refl
+        (routeOn (bodyOf form) (dearest (bodyOf form))) (s .best) e
+
+-- ---- demand 3 for the numbers that are printed
+
+-- no run of at most the printed count of iterations costs more than the printed bound; and a walk that is not over has
+-- found the printed route
+pub record Holds (form text : List ℕ) : Type 0 where
+  pub iterations : ℕ
+  pub weight : ℕ
+  pub bound : ℕ
+  pub kept : ℕ
+  pub route : List ℕ
+  pub walk : WalkAnswer
+  pub printed : text ≡ eightLines (bodyOf form) iterations weight bound kept route walk
+  pub sound : {l : List (Path × ℕ)} → Run (bodyOf form) l → length l ≤ iterations
+      → runCost (bodyOf form) (stepCost (bodyOf form)) l ≤ bound
+  pub agrees : (i w n walked : ℕ) → walk ≡ Walked i w n walked → (i ≡ iterations) × ((w ≡ weight) × (n ≡ bound))
+
+pub report-holds : (form text : List ℕ) → Reported form text
+    → ((number : ℕ) × (place : ℕ) × (text ≡ refusalLine number place)) ⊎ Holds form text
+report-holds form text (refused number place route o e) = inl (number, place, e)
+report-holds form text (reported i w b k route o a held x e) =
+    let swept = own-answered form noRoute i w b k route o in
+    inr (record {
+      iterations = i;
+      weight = w;
+      bound = b;
+      kept = k;
+      route = route;
+      walk = a;
+      printed = e;
+      sound = λ r n. answered-sound form noRoute route i w b swept r n;
+      agrees = λ i′ w′ b′ walked same.
+          let g = answered-agree dearest form noRoute held noRoute route i′ w′ b′ i w b
+          (walk-answered form budget noRoute (walk.said (Walked i′ w′ b′ walked), held)
+          (subst (λ (y : WalkAnswer). walk.WalkOwed form budget noRoute (walk.said y, held)) same x) refl) swept in
+          (g .iterations, (g .weight, g .bound));
+    })

@@ -1,5 +1,6 @@
--- What the report program prints, after document 01, 'The trainer's cases'. Trusted: definitions only. A text is a list of ASCII codes. Rests on the sweep's Answer
--- and routes' WalkAnswer (what the two ways owe) and on form's Form and Conflict (the body and its conflict list).
+-- What the report program prints, after document 01, 'The trainer's cases'. Trusted: definitions only. A text is a list
+-- of ASCII codes. Rests on the Answers of sweep and walk (what the two ways owe) and on form's Form and Conflict (the
+-- body and its conflict list).
 use mathlib.Core.List.{List, [], _∷_, _++_}
 use mathlib.Core.Path.{_≡_}
 use Prim.Native.Nat.{ℕ}
@@ -60,7 +61,8 @@ eightLines body iterations weight bound kept route walk =
     line blocksWord (body .count)
     ++ (line iterationsWord iterations
     ++ (line conflictsWord (length (conflicts body))
-    ++ (line weightWord weight ++ (line boundWord bound ++ (routeLine route ++ (line keptWord kept ++ walkedLine walk))))))
+    ++ (line weightWord weight ++
+    (line boundWord bound ++ (routeLine route ++ (line keptWord kept ++ walkedLine walk))))))
 
 -- The program's lent memory, 64 bytes for a route, and its walk budget.
 abbrev pub noRoute : List ℕ
@@ -69,9 +71,12 @@ noRoute = replicate 64 0
 abbrev pub budget : ℕ
 budget = 100000
 
--- The text for these bytes: the sweep's refusal alone; or the eight lines, from the sweep's answer and route and the walk's answer. The sweep is that over a table of 1,536 entries.
+-- The text for these bytes: the sweep's refusal alone; or the eight lines, from the sweep's answer and route and the
+-- walk's answer. The sweep is that over a table of 1,536 entries.
 pub data Reported (form text : List ℕ) : Type 0 where
-  refused : (number place : ℕ) (route : List ℕ) → OwnTableOwed form noRoute (Unswept number place) route → text ≡ refusalLine number place → Reported form text
-  reported : (iterations weight bound kept : ℕ) (route : List ℕ) → OwnTableOwed form noRoute (Routed iterations weight bound kept) route
+  refused : (number place : ℕ) (route : List ℕ) → OwnTableOwed form noRoute (Unswept number place) route
+      → text ≡ refusalLine number place → Reported form text
+  reported : (iterations weight bound kept : ℕ) (route : List ℕ)
+      → OwnTableOwed form noRoute (Routed iterations weight bound kept) route
       → (walk : WalkAnswer) (held : List ℕ) → WalkOwed form budget noRoute (said walk, held)
       → text ≡ eightLines (bodyOf form) iterations weight bound kept route walk → Reported form text

@@ -1,5 +1,6 @@
--- What acceptance says, record by record: an accepted form is a counter, and then blocks and effects up to its end, each whole, of its kind's length, within
--- the limits and with every field in range. Proofs above go by recursion over these records (Passing). Rests on Form, its Records, Kinds and Filled.
+-- What acceptance says, record by record: an accepted form is a counter, and then blocks and effects up to its end,
+-- each whole, of its kind's length, within the limits and with every field in range. Proofs above go by recursion over
+-- these records (Passing). Rests on Form, its Records, Kinds and Filled.
 use mathlib.Core.Bool.{Bool, true, false, not, _||_, _&&_, and-true}
 use mathlib.Core.List.{List, [], _∷_}
 use mathlib.Core.Path.{_≡_, refl, ap, sym, subst, _∙_}
@@ -15,7 +16,11 @@ use Rattle.form.specs.declared.Block.{Block}
 use Rattle.form.specs.declared.Effect.{Effect}
 use Rattle.form.specs.declared.Verdict.{Verdict}
 use Rattle.form.specs.declared.Verdict.the-variants.{Accepted, Refused}
-use Rattle.form.specs.Form.{when, counterRole, blockRole, effectRole, lengthAt, kindNumber, kindAt, isUnknown, isCounter, isBlock, isEffect, counterAt, blockAt, effectAt, recordsFrom, stray, someTarget, badCounter, badBlock, badEffect, lowTarget, badField, badTarget, outOfPlace, overLimit, payloadFault, recordFault, oneIf, judged, judgeEnds, judgeRecords, judge, gather, ownEffects, blocksIn, effectsIn, zeroBlock, zeroEffect, bodyOf, sumOwn}
+use Rattle.form.specs.Form.{when, counterRole, blockRole, effectRole, lengthAt, kindNumber, kindAt, isUnknown}
+use Rattle.form.specs.Form.{isCounter, isBlock, isEffect, counterAt, blockAt, effectAt, recordsFrom, stray, someTarget}
+use Rattle.form.specs.Form.{badCounter, badBlock, badEffect, lowTarget, badField, badTarget, outOfPlace, overLimit}
+use Rattle.form.specs.Form.{payloadFault, recordFault, oneIf, judged, judgeEnds, judgeRecords, judge, gather}
+use Rattle.form.specs.Form.{ownEffects, blocksIn, effectsIn, zeroBlock, zeroEffect, bodyOf, sumOwn}
 use Rattle.form.specs.Relation.{eqZ}
 use Rattle.form.specs.Answer.{accepted}
 use Rattle.form.specs.Laying.{blocksCounted}
@@ -26,7 +31,8 @@ use Rattle.roundtrip.specs.Filled.{effectsCounted, take-fill}
 pub refused : {number place : ℕ} → Refused number place ≡ Accepted → ⊥
 refused e = clash (ap accepted e) refl
 
-pub judged-out : (fault place : ℕ) (rest : Verdict) → judged fault place rest ≡ Accepted → (fault ≡ 0) × (rest ≡ Accepted)
+pub judged-out : (fault place : ℕ) (rest : Verdict) → judged fault place rest ≡ Accepted
+    → (fault ≡ 0) × (rest ≡ Accepted)
 judged-out fault place rest a = go (eqb fault 0) refl a
   where
     go : (t : Bool) → eqb fault 0 ≡ t → when t rest (Refused fault place) ≡ Accepted → (fault ≡ 0) × (rest ≡ Accepted)
@@ -57,7 +63,8 @@ no-signed : (first ending : ℕ) (z : ℤ) → stray first ending (eqZ z (pos 0)
 no-signed first ending z e h = zero-only z (no-stray first ending (eqZ z (pos 0)) e h)
 
 -- a used target fails the test
-pub no-target : (ending : ℕ) (jump fall : Bool) → someTarget ending jump fall ≡ false → (0 < ending → jump ≡ false) × (1 < ending → fall ≡ false)
+pub no-target : (ending : ℕ) (jump fall : Bool) → someTarget ending jump fall ≡ false
+    → (0 < ending → jump ≡ false) × (1 < ending → fall ≡ false)
 no-target ending jump fall e =
     let (j, f) = or-no (ltb 0 ending && jump) (ltb 1 ending && fall) e in
     ((λ h. second-fails jump (lt-ltb 0 ending h) j), (λ h. second-fails fall (lt-ltb 1 ending h) f))
@@ -192,7 +199,11 @@ module _ (s : List ℕ) (at b e : ℕ) (h : at < length s) (p : Passed s at b e)
         role = k;
         size = p .sized;
         room = room-for;
-        first = omega (arith, ltb-false 0 at (sym (and-true (ltb 0 at)) ∙ or-no (ltb 0 at && true) _ (or-no (eqb at 0 && false) _ place .1) .0));
+        first = omega (
+          arith,
+          ltb-false 0 at (sym (and-true (ltb 0 at))
+              ∙ or-no (ltb 0 at && true) _ (or-no (eqb at 0 && false) _ place .1) .0),
+        );
         relation = ltb-false _ _ (or-no _ _ field .0);
       }
 
@@ -238,7 +249,8 @@ module _ (s : List ℕ) (at b e : ℕ) (h : at < length s) (p : Passed s at b e)
 -- the first record is a counter
 pub counter-first : (s : List ℕ) → 0 < length s → Passed s 0 0 0 → CounterRecord s 0
 unfolding outOfPlace
-counter-first s h p = as-counter s 0 0 0 h p (eqb-true _ _ (not-false _ (or-no (not (isCounter s 0)) _ (p .inPlace) .0)))
+counter-first s h p =
+    as-counter s 0 0 0 h p (eqb-true _ _ (not-false _ (or-no (not (isCounter s 0)) _ (p .inPlace) .0)))
 
 -- ---- the records of a form, one after another
 
@@ -250,8 +262,10 @@ pub record Ended (s : List ℕ) (b : ℕ) : Type 0 where
 -- from place `at` on, with b blocks and e effects before it
 pub data Passing (s : List ℕ) : ℕ → ℕ → ℕ → List ℕ → Type 0 where
   finish : {at b e : ℕ} → at ≡ length s → Ended s b → Passing s at b e []
-  block : {at b e : ℕ} {rest : List ℕ} → BlockRecord s at b → Passing s (next s at) (b + 1) e rest → Passing s at b e (at ∷ rest)
-  effect : {at b e : ℕ} {rest : List ℕ} → EffectRecord s at b e → Passing s (next s at) b (e + 1) rest → Passing s at b e (at ∷ rest)
+  block : {at b e : ℕ} {rest : List ℕ} → BlockRecord s at b → Passing s (next s at) (b + 1) e rest
+      → Passing s at b e (at ∷ rest)
+  effect : {at b e : ℕ} {rest : List ℕ} → EffectRecord s at b e → Passing s (next s at) b (e + 1) rest
+      → Passing s at b e (at ∷ rest)
 
 pub record AcceptedForm (s : List ℕ) : Type 0 where
   pub counter : CounterRecord s 0
@@ -270,7 +284,8 @@ goes-on s at b e h a =
 
 -- what is asked of the records from a place on
 abbrev From : List ℕ → ℕ → ℕ → ℕ → Type 0
-From s at b e = at ≤ length s → 0 < at → judgeRecords s (recordsFrom s at) b e ≡ Accepted → Passing s at b e (recordsFrom s at)
+From s at b e = at ≤ length s → 0 < at → judgeRecords s (recordsFrom s at) b e ≡ Accepted
+    → Passing s at b e (recordsFrom s at)
 
 module _ (s : List ℕ) where
   -- one record, and those from the next on
@@ -282,12 +297,14 @@ module _ (s : List ℕ) where
   step at b e h later (block k) a ih =
       let a′ : judgeRecords s (recordsFrom s (next s at)) (b + 1) (e + 0) ≡ Accepted = rw (k .role) at a in
       let up = next-above s at in
-      let w = ih (next s at) (b + 1) e up (k .room) (omega (arith, up)) (subst (λ (m : ℕ). judgeRecords s (recordsFrom s (next s at)) (b + 1) m ≡ Accepted) (add-zero e) a′) in
+      let w = ih (next s at) (b + 1) e up (k .room) (omega (arith, up))
+      (subst (λ (m : ℕ). judgeRecords s (recordsFrom s (next s at)) (b + 1) m ≡ Accepted) (add-zero e) a′) in
       rw (records-step s at h) (block k w)
   step at b e h later (effect f) a ih =
       let a′ : judgeRecords s (recordsFrom s (next s at)) (b + 0) (e + 1) ≡ Accepted = rw (f .role) at a in
       let up = next-above s at in
-      let w = ih (next s at) b (e + 1) up (f .room) (omega (arith, up)) (subst (λ (m : ℕ). judgeRecords s (recordsFrom s (next s at)) m (e + 1) ≡ Accepted) (add-zero b) a′) in
+      let w = ih (next s at) b (e + 1) up (f .room) (omega (arith, up))
+      (subst (λ (m : ℕ). judgeRecords s (recordsFrom s (next s at)) m (e + 1) ≡ Accepted) (add-zero b) a′) in
       rw (records-step s at h) (effect f w)
 
   -- at the end
@@ -334,23 +351,29 @@ accepted-form s a =
 
 module _ (s : List ℕ) where
   -- the blocks are those that were counted, and they ended well
-  pub all-blocks : {at b e : ℕ} {records : List ℕ} → Passing s at b e records → Ended s (b + length (blocksIn s records))
+  pub all-blocks : {at b e : ℕ} {records : List ℕ} → Passing s at b e records
+      → Ended s (b + length (blocksIn s records))
   unfolding gather
   all-blocks (finish {b = b} l ended) = rw (add-zero b) ended
-  all-blocks (block {b = b} {rest = rest} k w) = rw (k .role) (subst (Ended s) (one-more b (length (blocksIn s rest))) (all-blocks w))
+  all-blocks (block {b = b} {rest = rest} k w) =
+      rw (k .role) (subst (Ended s) (one-more b (length (blocksIn s rest))) (all-blocks w))
   all-blocks (effect f w) = rw (f .role) (all-blocks w)
 
-  pub few-blocks : {at b e : ℕ} {records : List ℕ} → Passing s at b e records → b ≤ 64 → b + length (blocksIn s records) ≤ 64
+  pub few-blocks : {at b e : ℕ} {records : List ℕ} → Passing s at b e records → b ≤ 64
+      → b + length (blocksIn s records) ≤ 64
   unfolding gather
   few-blocks (finish {b = b} l ended) h = rw (add-zero b) h
-  few-blocks (block {b = b} {rest = rest} k w) h = rw (k .role, ← (one-more b (length (blocksIn s rest)))) (few-blocks w (omega (arith, k .within)))
+  few-blocks (block {b = b} {rest = rest} k w) h = rw (k .role, ← (one-more b (length (blocksIn s rest))))
+      (few-blocks w (omega (arith, k .within)))
   few-blocks (effect f w) h = rw (f .role) (few-blocks w h)
 
-  pub few-effects : {at b e : ℕ} {records : List ℕ} → Passing s at b e records → e ≤ 256 → e + length (effectsIn s records) ≤ 256
+  pub few-effects : {at b e : ℕ} {records : List ℕ} → Passing s at b e records → e ≤ 256
+      → e + length (effectsIn s records) ≤ 256
   unfolding gather
   few-effects (finish {e = e} l ended) h = rw (add-zero e) h
   few-effects (block k w) h = rw (k .role) (few-effects w h)
-  few-effects (effect {e = e} {rest = rest} f w) h = rw (f .role, ← (one-more e (length (effectsIn s rest)))) (few-effects w (omega (arith, f .within)))
+  few-effects (effect {e = e} {rest = rest} f w) h = rw (f .role, ← (one-more e (length (effectsIn s rest))))
+      (few-effects w (omega (arith, f .within)))
 
   -- every effect belongs to a block
   pub owned :
@@ -359,7 +382,8 @@ module _ (s : List ℕ) where
   unfolding gather ownEffects sumOwn
   owned (finish l ended) = refl
   owned (block {rest = rest} k w) = rw (k .role) (zero-add (ownEffects s rest + sumOwn (blocksIn s rest)) ∙ owned w)
-  owned (effect {rest = rest} f w) = rw (f .role) (suc-add (ownEffects s rest) (sumOwn (blocksIn s rest)) ∙ ap suc (owned w))
+  owned (effect {rest = rest} f w) = rw (f .role) (suc-add (ownEffects s rest) (sumOwn (blocksIn s rest))
+      ∙ ap suc (owned w))
 
   -- before any block there are no effects
   pub none-owned : {at b e : ℕ} {records : List ℕ} → Passing s at b e records → b ≡ 0 → ownEffects s records ≡ 0

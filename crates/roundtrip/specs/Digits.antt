@@ -1,5 +1,5 @@
--- Numbers and their bytes: the digits of a number in base 256 are the bytes it was read from, and the number read from its digits is that number; a signed
--- number is 32 bits and back. Rests on Form.
+-- Numbers and their bytes: the digits of a number in base 256 are the bytes it was read from, and the number read from
+-- its digits is that number; a signed number is 32 bits and back. Rests on Form.
 use mathlib.Core.Bool.{Bool, true, false}
 use mathlib.Core.List.{List, [], _∷_, _++_}
 use mathlib.Core.Path.{_≡_, refl, ap, sym, _∙_}
@@ -94,12 +94,15 @@ module _ (t : List ℕ) (h : OfBytes t) (i : ℕ) where
 
 -- ---- the number read from its digits
 
-digits : (n p q r : ℕ) → p ≡ n / 256 → q ≡ p / 256 → r ≡ q / 256 → r < 256 → (n % 256 + 256 * (p % 256)) + 65536 * (q % 256 + 256 * (r % 256)) ≡ n
+digits : (n p q r : ℕ) → p ≡ n / 256 → q ≡ p / 256 → r ≡ q / 256 → r < 256
+    → (n % 256 + 256 * (p % 256)) + 65536 * (q % 256 + 256 * (r % 256)) ≡ n
 digits n p q r e f g h = omega arith
 
-pub digits4 : (n : ℕ) → n < 2 ^ 32 → (n % 256 + 256 * (n / 256 % 256)) + 65536 * (n / 65536 % 256 + 256 * (n / 16777216 % 256)) ≡ n
+pub digits4 : (n : ℕ) → n < 2 ^ 32
+    → (n % 256 + 256 * (n / 256 % 256)) + 65536 * (n / 65536 % 256 + 256 * (n / 16777216 % 256)) ≡ n
 digits4 n h =
-    digits n (n / 256) (n / 65536) (n / 16777216) refl (sym (div-div-eq-div-mul n 256 256)) (sym (div-div-eq-div-mul n 65536 256)) (omega arith)
+    digits n (n / 256) (n / 65536) (n / 16777216) refl (sym (div-div-eq-div-mul n 256 256))
+    (sym (div-div-eq-div-mul n 65536 256)) (omega arith)
 
 -- ---- signed numbers
 
@@ -107,7 +110,8 @@ digits4 n h =
 pub signed-again :
     (z : ℤ) → SFits w32 z
     → toZ w32
-    ((ofZ w32 z % 256 + 256 * (ofZ w32 z / 256 % 256)) + 65536 * (ofZ w32 z / 65536 % 256 + 256 * (ofZ w32 z / 16777216 % 256)))
+    ((ofZ w32 z % 256 + 256 * (ofZ w32 z / 256 % 256)) + 65536
+    * (ofZ w32 z / 65536 % 256 + 256 * (ofZ w32 z / 16777216 % 256)))
     ≡ z
 signed-again z f = ap (toZ w32) (digits4 (ofZ w32 z) (ofZ-fits w32 z f .fits)) ∙ toZ-ofZ f
 

@@ -1,5 +1,6 @@
--- The trainer's body of document 01, with block 1's target t: 173 bytes, a line for each record. As it stands in the document (t is 3) the reader accepts it, so
--- that the theorems of this crate say something of it; with t made 1 it is refused, 16 at 34. Rests on Form.
+-- The trainer's body of document 01, with block 1's target t: 173 bytes, a line for each record. As it stands in the
+-- document (t is 3) the reader accepts it, so that the theorems of this crate say something of it; with t made 1 it is
+-- refused, 16 at 34. Rests on Form.
 use mathlib.Core.Bool.{Bool, true, _&&_}
 use mathlib.Core.List.{List, [], _∷_}
 use mathlib.Core.Path.{_≡_, refl}
@@ -8,7 +9,8 @@ use borrow.Author.Tests.{ltb-true}
 use lib.Dec.{ltb}
 use Rattle.laws.specs.Tests.{and-out}
 use Rattle.form.specs.declared.Verdict.the-variants.{Accepted, Refused}
-use Rattle.form.specs.Form.{kindOf, startsFor, recordsFrom, badField, badTarget, outOfPlace, overLimit, payloadFault, recordFault, endFault, judgeEnds, judgeRecords, judge, bodyOf, lay}
+use Rattle.form.specs.Form.{kindOf, startsFor, recordsFrom, badField, badTarget, outOfPlace, overLimit, payloadFault}
+use Rattle.form.specs.Form.{recordFault, endFault, judgeEnds, judgeRecords, judge, bodyOf, lay}
 use Rattle.roundtrip.specs.Digits.{Each, each-byte}
 use Rattle.roundtrip.specs.Sound.{WellFormed, well-formed}
 use Rattle.roundtrip.specs.WriteBack.{lay-back}
@@ -28,11 +30,13 @@ trainers t =
     17 ∷ 0 ∷ 2 ∷ 0 ∷ 1 ∷ 0 ∷ 0 ∷ 0 ∷ 0 ∷ 0 ∷ 0 ∷ 0 ∷ 0 ∷ 0 ∷ 0 ∷ 0 ∷ 0 ∷ []
 
 pub accepted : judge (trainers 3) ≡ Accepted
-unfolding kindOf startsFor recordsFrom badField badTarget outOfPlace overLimit payloadFault recordFault endFault judgeEnds judgeRecords judge
+unfolding kindOf startsFor recordsFrom badField badTarget outOfPlace overLimit payloadFault recordFault endFault
+    judgeEnds judgeRecords judge
 accepted = refl
 
 pub refused : judge (trainers 1) ≡ Refused 16 34
-unfolding kindOf startsFor recordsFrom badField badTarget outOfPlace overLimit payloadFault recordFault endFault judgeEnds judgeRecords judge
+unfolding kindOf startsFor recordsFrom badField badTarget outOfPlace overLimit payloadFault recordFault endFault
+    judgeEnds judgeRecords judge
 refused = refl
 
 abbrev bytes : List ℕ → Bool

@@ -1,4 +1,5 @@
--- An array filled from the front holds the list that it was filled with, and zeros past it; the effects of a body up to its total. Rests on Form.
+-- An array filled from the front holds the list that it was filled with, and zeros past it; the effects of a body up to
+-- its total. Rests on Form.
 use mathlib.Core.List.{List, [], _∷_}
 use mathlib.Core.Path.{_≡_, refl, ap}
 use Prim.Native.Nat.{ℕ, zero, suc, _≤_}

@@ -1,5 +1,6 @@
--- Judging sees no more than the front of an input: a longest form has 3,665 bytes (a counter, 64 blocks, 256 effects), and a longer input is refused at a
--- record that starts there or before, for what stands in its first 17 bytes. So 3,682 bytes decide. Rests on Form, Answer, Records and Acceptance.
+-- Judging sees no more than the front of an input: a longest form has 3,665 bytes (a counter, 64 blocks, 256 effects),
+-- and a longer input is refused at a record that starts there or before, for what stands in its first 17 bytes. So
+-- 3,682 bytes decide. Rests on Form, Answer, Records and Acceptance.
 use mathlib.Core.Bool.{Bool, true, false, not, _&&_, _||_}
 use mathlib.Core.List.{List}
 use mathlib.Core.Path.{_≡_, refl, ap, sym, _∙_}
@@ -7,17 +8,20 @@ use Prim.Native.Nat.{ℕ, zero, suc, _+_, _-_, _*_, _<_, _≤_}
 use native.Mathlib.Nat.{add-zero}
 use native.Mathlib.Omega.{arith}
 use borrow.Author.Tests.{ltb-true, ltb-false, le-ltb, eqb-true, eqb-false}
-use lib.Dec.{ltb, eqb, lit<, lit≤}
+use lib.Dec.{ltb, eqb, lit≤}
 use lib.ListN.{length, take}
 use lib.Seq.{take-all, length-take-le, getD-take}
 use Rattle.laws.specs.Tests.{split}
 use Rattle.form.specs.declared.Verdict.{Verdict}
 use Rattle.form.specs.declared.Verdict.the-variants.{Accepted, Refused}
-use Rattle.form.specs.Form.{when, byteAt, counterRole, blockRole, effectRole, kindOf, lengthAt, kindNumber, kindAt, isBlock, isEffect, oneIf, recordsFrom, badCounter, badBlock, badEffect, lowTarget, badField, badTarget, outOfPlace, overLimit, payloadFault, recordFault, judgeRecords, judge}
+use Rattle.form.specs.Form.{when, byteAt, counterRole, blockRole, effectRole, kindOf, lengthAt, kindNumber, kindAt}
+use Rattle.form.specs.Form.{isBlock, isEffect, oneIf, recordsFrom, badCounter, badBlock, badEffect, lowTarget, badField}
+use Rattle.form.specs.Form.{badTarget, outOfPlace, overLimit, payloadFault, recordFault, judgeRecords, judge}
 use Rattle.form.specs.Answer.{reading}
 use Rattle.form.specs.Records.{next, next-above, sized, rest-leave, rest-pass}
 use Rattle.roundtrip.specs.Kinds.{effect-length, length-same, kind-same, counter-same, block-same, effect-same}
-use Rattle.roundtrip.specs.Acceptance.{Passed, passed, RecordAt, counter, block, effect, record-at, counter-first, Passing, finish, accepted-form}
+use Rattle.roundtrip.specs.Acceptance.{Passed, passed, RecordAt, counter, block, effect, record-at, counter-first}
+use Rattle.roundtrip.specs.Acceptance.{Passing, finish, accepted-form}
 
 -- where a record may start: after the counter, b blocks and e effects, all within the limits
 pub record Within (at b e : ℕ) : Type 0 where
@@ -71,14 +75,17 @@ sizes true beyond beyond′ rest h = λ i. when (h refl i) 10 rest
 sizes false beyond beyond′ rest h = refl
 
 -- after a record without a fault the next one starts within the limits
-further : (s : List ℕ) (at b e : ℕ) → RecordAt s at b e → Within at b e → Within (next s at) (b + oneIf (isBlock s at)) (e + oneIf (isEffect s at))
+further : (s : List ℕ) (at b e : ℕ) → RecordAt s at b e → Within at b e
+    → Within (next s at) (b + oneIf (isBlock s at)) (e + oneIf (isEffect s at))
 further s at b e (counter c) w =
-    rw (c .role, add-zero b, add-zero e) (record { reach = omega (arith, c .first, most s at); blocks = w .blocks; effects = w .effects })
+    rw (c .role, add-zero b, add-zero e)
+    (record { reach = omega (arith, c .first, most s at); blocks = w .blocks; effects = w .effects })
 further s at b e (block k) w = rw (k .role, add-zero e) (block-more w (k .within) (most s at))
 further s at b e (effect f) w = rw (f .role, add-zero b) (effect-more w (f .within) (effect-most s at (f .role)))
 
 -- two inputs of at least 3,682 bytes, of which those are the same
-module _ (s t : List ℕ) (long : 3682 ≤ length s) (long′ : 3682 ≤ length t) (same : (i : ℕ) → i < 3682 → byteAt s i ≡ byteAt t i) where
+module _ (s t : List ℕ) (long : 3682 ≤ length s) (long′ : 3682 ≤ length t) (same : (i : ℕ) → i < 3682
+    → byteAt s i ≡ byteAt t i) where
   -- judged alike from a place on
   abbrev Alike : ℕ → ℕ → ℕ → Type 0
   Alike at b e = judgeRecords s (recordsFrom s at) b e ≡ judgeRecords t (recordsFrom t at) b e
@@ -124,7 +131,8 @@ module _ (s t : List ℕ) (long : 3682 ≤ length s) (long′ : 3682 ≤ length 
     same-fault : (b e : ℕ) → recordFault s at b e ≡ recordFault t at b e
     unfolding recordFault
     same-fault b e =
-        let size = sizes (eqb (lengthAt t at) (kindAt t at .length)) (ltb (length s - at) (lengthAt t at)) _ (payloadFault t at b e) (λ q. fits _ (own q)) in
+        let size = sizes (eqb (lengthAt t at) (kindAt t at .length)) (ltb (length s - at) (lengthAt t at)) _
+        (payloadFault t at b e) (λ q. fits _ (own q)) in
         rw (length-same s t at at here, kind, same-payload b e, fits 4 (lit≤ tt), size)
 
     -- so both are judged alike from it on, if they are after it where it has no fault
@@ -138,7 +146,8 @@ module _ (s t : List ℕ) (long : 3682 ≤ length s) (long′ : 3682 ≤ length 
         let z = eqb-true _ _ q in
         sym (rest-pass s at (omega arith) b e _ z refl)
         ∙ (after (passed s at b e z)
-        ∙ ((λ i. judgeRecords t (recordsFrom t (at + kind i .length)) (b + oneIf (eqb (kind i .role) blockRole)) (e + oneIf (eqb (kind i .role) effectRole)))
+        ∙ ((λ i. judgeRecords t (recordsFrom t (at + kind i .length)) (b + oneIf (eqb (kind i .role) blockRole))
+        (e + oneIf (eqb (kind i .role) effectRole)))
         ∙ rest-pass t at (omega arith) b e _ (sym (same-fault b e) ∙ z) refl)))
         (λ q.
         let f = eqb-false _ _ q in
@@ -151,13 +160,15 @@ module _ (s t : List ℕ) (long : 3682 ≤ length s) (long′ : 3682 ≤ length 
   alike zero at b e m later w = absurd (omega (arith, near w))
   alike (suc most) at b e m later w =
       turn at (near w) b e
-      (λ p. alike most (next s at) _ _ (omega (arith, next-above s at)) (omega (arith, next-above s at)) (further s at b e (record-at s at b e (omega (arith, near w)) p later) w))
+      (λ p. alike most (next s at) _ _ (omega (arith, next-above s at)) (omega (arith, next-above s at))
+      (further s at b e (record-at s at b e (omega (arith, near w)) p later) w))
 
   judge-alike : judge s ≡ judge t
   unfolding judge
   judge-alike =
       turn 0 (lit≤ tt) 0 0
-      (λ p. alike 3682 (next s 0) _ _ (omega arith) (next-above s 0) (further s 0 0 0 (counter (counter-first s (omega arith) p)) origin))
+      (λ p. alike 3682 (next s 0) _ _ (omega arith) (next-above s 0)
+      (further s 0 0 0 (counter (counter-first s (omega arith) p)) origin))
 
 -- ---- the front decides
 
@@ -167,7 +178,8 @@ module _ (n : ℕ) (s : List ℕ) (h : 3682 ≤ n) where
   either f g = split (ltb n (length s)) (λ q. g (ltb-true _ _ q)) (λ q. f (take-all n s (ltb-false _ _ q)))
 
   pub front : judge (take n s) ≡ judge s
-  front = either (ap judge) (λ l. judge-alike (take n s) s (rw (length-take-le n s (omega arith)) h) (omega arith) (λ i b. getD-take n s i 0 (omega arith)))
+  front = either (ap judge) (λ l. judge-alike (take n s) s (rw (length-take-le n s (omega arith)) h) (omega arith)
+      (λ i b. getD-take n s i 0 (omega arith)))
 
   pub front-reading : reading (take n s) ≡ reading s
   front-reading = either (ap reading) (λ l. refuses l (judge s) refl)

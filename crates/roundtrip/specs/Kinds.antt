@@ -1,6 +1,7 @@
--- One record of each kind, between its bytes and its fields. For each kind: which number the table gives its role; that records whose bytes are the same are the
--- same; that what is laid out reads as what it was laid out from; that what is read lays out as the bytes it was read from; and that what is laid out is bytes. A
--- new kind adds one law to each. Rests on Form and Digits.
+-- One record of each kind, between its bytes and its fields. For each kind: which number the table gives its role; that
+-- records whose bytes are the same are the same; that what is laid out reads as what it was laid out from; that what is
+-- read lays out as the bytes it was read from; and that what is laid out is bytes. A new kind adds one law to each.
+-- Rests on Form and Digits.
 use mathlib.Core.Bool.{Bool, true, false}
 use mathlib.Core.List.{List, _∷_, _++_}
 use mathlib.Core.Path.{_≡_, refl, ap, sym, _∙_}
@@ -8,7 +9,7 @@ use Prim.Native.Nat.{ℕ, _+_, _-_, _*_, _<_, _≤_, _^_}
 use native.Mathlib.Nat.{zero-add, add-assoc, add-zero}
 use native.Mathlib.Omega.{arith}
 use borrow.Author.Tests.{eqb-true}
-use lib.Dec.{eqb, lit<, lit≤}
+use lib.Dec.{eqb, lit<}
 use lib.ListN.{length, drop, length-drop, length-append}
 use lib.Seq.{getD-drop, drop-drop, drop-append-seam}
 use mir.Facts.{ofZ-toZ}
@@ -18,16 +19,20 @@ use Rattle.form.specs.declared.Counter.{Counter}
 use Rattle.form.specs.declared.Block.{Block}
 use Rattle.form.specs.declared.Effect.{Effect}
 use Rattle.form.specs.declared.Kind.{Kind}
-use Rattle.form.specs.Form.{when, byteAt, number2, number4, signed4, unknown, counterRole, blockRole, effectRole, kindOf, lengthAt, kindNumber, kindAt, counterAt, blockAt, effectAt, counterBytes, blockBytes, effectBytes, zeroBlock, zeroEffect}
+use Rattle.form.specs.Form.{when, byteAt, number2, number4, signed4, unknown, counterRole, blockRole, effectRole}
+use Rattle.form.specs.Form.{kindOf, lengthAt, kindNumber, kindAt, counterAt, blockAt, effectAt, counterBytes}
+use Rattle.form.specs.Form.{blockBytes, effectBytes, zeroBlock, zeroEffect}
 use Rattle.form.specs.Records.{next, next-above}
-use Rattle.roundtrip.specs.Digits.{OfBytes, Each, spread, spread-all, two, four, fits4, digits4, signed-again, zero-fits}
+use Rattle.roundtrip.specs.Digits.{OfBytes, Each, spread, spread-all, two, four, fits4, digits4, signed-again}
+use Rattle.roundtrip.specs.Digits.{zero-fits}
 
 -- ---- the table's numbers, by the role
 
 -- a number of this role is one of its kinds
 module _ (number : ℕ) where
   pub of-role :
-      {C : Type 0} (role : ℕ) → kindOf number .role ≡ role → (number ≡ 1 → counterRole ≡ role → C) → (number ≡ 2 → blockRole ≡ role → C)
+      {C : Type 0} (role : ℕ) → kindOf number .role ≡ role → (number ≡ 1 → counterRole ≡ role → C)
+      → (number ≡ 2 → blockRole ≡ role → C)
       → (number ≡ 3 → effectRole ≡ role → C) → (unknown ≡ role → C) → C
   unfolding kindOf
   of-role {C} role e first second third other = by (eqb number 1) (eqb number 2) (eqb number 3) refl refl refl e
@@ -45,23 +50,28 @@ module _ (number : ℕ) where
       by false false false p q r e = other e
 
   pub counter-kind : kindOf number .role ≡ counterRole → number ≡ 1
-  counter-kind e = of-role counterRole e (λ n r. n) (λ n r. absurd (omega arith)) (λ n r. absurd (omega arith)) (λ r. absurd (omega arith))
+  counter-kind e = of-role counterRole e (λ n r. n) (λ n r. absurd (omega arith)) (λ n r. absurd (omega arith))
+      (λ r. absurd (omega arith))
 
   pub block-kind : kindOf number .role ≡ blockRole → number ≡ 2
-  block-kind e = of-role blockRole e (λ n r. absurd (omega arith)) (λ n r. n) (λ n r. absurd (omega arith)) (λ r. absurd (omega arith))
+  block-kind e = of-role blockRole e (λ n r. absurd (omega arith)) (λ n r. n) (λ n r. absurd (omega arith))
+      (λ r. absurd (omega arith))
 
   pub effect-kind : kindOf number .role ≡ effectRole → number ≡ 3
-  effect-kind e = of-role effectRole e (λ n r. absurd (omega arith)) (λ n r. absurd (omega arith)) (λ n r. n) (λ r. absurd (omega arith))
+  effect-kind e = of-role effectRole e (λ n r. absurd (omega arith)) (λ n r. absurd (omega arith)) (λ n r. n)
+      (λ r. absurd (omega arith))
 
 -- ---- where the bytes are the same the records are
 
 module _ (s t : List ℕ) (p q : ℕ) (same : (i : ℕ) → i < 17 → byteAt s (p + i) ≡ byteAt t (q + i)) where
   two-same : (i : ℕ) → i + 1 < 17 → number2 s (p + i) ≡ number2 t (q + i)
-  two-same i h = λ j. same i (omega arith) j + 256 * (ap (byteAt s) (add-assoc p i 1) ∙ (same (i + 1) h ∙ ap (byteAt t) (sym (add-assoc q i 1)))) j
+  two-same i h = λ j. same i (omega arith) j + 256 * (ap (byteAt s) (add-assoc p i 1)
+      ∙ (same (i + 1) h ∙ ap (byteAt t) (sym (add-assoc q i 1)))) j
 
   four-same : (i : ℕ) → i + 2 + 1 < 17 → number4 s (p + i) ≡ number4 t (q + i)
   four-same i h =
-      λ j. two-same i (omega arith) j + 65536 * (ap (number2 s) (add-assoc p i 2) ∙ (two-same (i + 2) h ∙ ap (number2 t) (sym (add-assoc q i 2)))) j
+      λ j. two-same i (omega arith) j + 65536 * (ap (number2 s) (add-assoc p i 2)
+      ∙ (two-same (i + 2) h ∙ ap (number2 t) (sym (add-assoc q i 2)))) j
 
   signed-same : (i : ℕ) → i + 2 + 1 < 17 → signed4 s (p + i) ≡ signed4 t (q + i)
   signed-same i h = ap (toZ w32) (four-same i h)
@@ -129,24 +139,28 @@ module _ (t : List ℕ) (h : OfBytes t) where
       (next-byte _ (four t h _ _ (ofZ-toZ (fits4 t h _)) refl))))) in
       all ∙ spread-all 17 t r
 
-  block-again : (own : ℕ) → lengthAt t 0 ≡ 17 → kindNumber t 0 ≡ 2 → 17 ≤ length t → blockBytes (blockAt t 0 own) ++ drop 17 t ≡ t
+  block-again : (own : ℕ) → lengthAt t 0 ≡ 17 → kindNumber t 0 ≡ 2 → 17 ≤ length t
+      → blockBytes (blockAt t 0 own) ++ drop 17 t ≡ t
   unfolding spread kindOf
   block-again own l k r =
       let all : blockBytes (blockAt t 0 own) ++ drop 17 t ≡ spread 17 0 t (drop 17 t) =
       two t h _ _ (sym l) (two t h _ _ (sym k) (four t h _ _ refl
-      (next-byte _ (next-byte _ (next-byte _ (next-byte _ (next-byte _ (four t h _ _ (ofZ-toZ (fits4 t h _)) refl)))))))) in
+      (next-byte _ (next-byte _
+      (next-byte _ (next-byte _ (next-byte _ (four t h _ _ (ofZ-toZ (fits4 t h _)) refl)))))))) in
       all ∙ spread-all 17 t r
 
   effect-again : lengthAt t 0 ≡ 10 → kindNumber t 0 ≡ 3 → 10 ≤ length t → effectBytes (effectAt t 0) ++ drop 10 t ≡ t
   unfolding spread kindOf
   effect-again l k r =
       let all : effectBytes (effectAt t 0) ++ drop 10 t ≡ spread 10 0 t (drop 10 t) =
-      two t h _ _ (sym l) (two t h _ _ (sym k) (next-byte _ (next-byte _ (four t h _ _ (ofZ-toZ (fits4 t h _)) refl)))) in
+      two t h _ _ (sym l) (two t h _ _ (sym k)
+      (next-byte _ (next-byte _ (four t h _ _ (ofZ-toZ (fits4 t h _)) refl)))) in
       all ∙ spread-all 10 t r
 
 -- and so at any place
 module _ (s : List ℕ) (at : ℕ) where
-  numbered : {number : ℕ} (size : ℕ) → kindNumber s at ≡ number → kindOf number .length ≡ size → kindAt s at .length ≡ size
+  numbered : {number : ℕ} (size : ℕ) → kindNumber s at ≡ number → kindOf number .length ≡ size
+      → kindAt s at .length ≡ size
   numbered size k l = ap (λ (n : ℕ). kindOf n .length) k ∙ l
 
   pub counter-length : kindAt s at .role ≡ counterRole → kindAt s at .length ≡ 17
@@ -165,28 +179,35 @@ module _ (s : List ℕ) (at : ℕ) where
     -- a record of this kind and size, laid out again at the start of what is left
     again-here :
         (number size : ℕ) (bytes : List ℕ) → kindNumber s at ≡ number → kindAt s at .length ≡ size
-        → (lengthAt (drop at s) 0 ≡ size → kindNumber (drop at s) 0 ≡ number → size ≤ length (drop at s) → bytes ++ drop size (drop at s) ≡ drop at s)
+        → (lengthAt (drop at s) 0 ≡ size → kindNumber (drop at s) 0 ≡ number → size ≤ length (drop at s)
+        → bytes ++ drop size (drop at s) ≡ drop at s)
         → bytes ++ drop (next s at) s ≡ drop at s
     again-here number size bytes k l again =
-        let on : drop (next s at) s ≡ drop size (drop at s) = ap (λ (n : ℕ). drop (at + n) s) l ∙ sym (drop-drop size at s) in
+        let on : drop (next s at) s ≡ drop size (drop at s) = ap (λ (n : ℕ). drop (at + n) s) l
+        ∙ sym (drop-drop size at s) in
         let fits : size ≤ length (drop at s) = simp length-drop (omega (arith, room, l)) in
         ap (λ (r : List ℕ). bytes ++ r) on
-        ∙ again (sym (length-same s (drop at s) at 0 (left s at)) ∙ (sized ∙ l)) (sym (kind-same s (drop at s) at 0 (left s at)) ∙ k) fits
+        ∙ again (sym (length-same s (drop at s) at 0 (left s at)) ∙ (sized ∙ l))
+        (sym (kind-same s (drop at s) at 0 (left s at)) ∙ k) fits
 
     pub counter-laid : kindAt s at .role ≡ counterRole → counterBytes (counterAt s at) ++ drop (next s at) s ≡ drop at s
     counter-laid r =
         ap (λ (v : Counter). counterBytes v ++ drop (next s at) s) (counter-same s (drop at s) at 0 (left s at))
-        ∙ (again-here 1 17 (counterBytes (counterAt (drop at s) 0)) (counter-kind _ r) (counter-length r) (counter-again (drop at s) (left-bytes s at h)))
+        ∙ (again-here 1 17 (counterBytes (counterAt (drop at s) 0)) (counter-kind _ r) (counter-length r)
+        (counter-again (drop at s) (left-bytes s at h)))
 
-    pub block-laid : (own : ℕ) → kindAt s at .role ≡ blockRole → blockBytes (blockAt s at own) ++ drop (next s at) s ≡ drop at s
+    pub block-laid : (own : ℕ) → kindAt s at .role ≡ blockRole
+        → blockBytes (blockAt s at own) ++ drop (next s at) s ≡ drop at s
     block-laid own r =
         ap (λ (v : Block). blockBytes v ++ drop (next s at) s) (block-same s (drop at s) at 0 (left s at) own)
-        ∙ (again-here 2 17 (blockBytes (blockAt (drop at s) 0 own)) (block-kind _ r) (block-length r) (block-again (drop at s) (left-bytes s at h) own))
+        ∙ (again-here 2 17 (blockBytes (blockAt (drop at s) 0 own)) (block-kind _ r) (block-length r)
+        (block-again (drop at s) (left-bytes s at h) own))
 
     pub effect-laid : kindAt s at .role ≡ effectRole → effectBytes (effectAt s at) ++ drop (next s at) s ≡ drop at s
     effect-laid r =
         ap (λ (v : Effect). effectBytes v ++ drop (next s at) s) (effect-same s (drop at s) at 0 (left s at))
-        ∙ (again-here 3 10 (effectBytes (effectAt (drop at s) 0)) (effect-kind _ r) (effect-length r) (effect-again (drop at s) (left-bytes s at h)))
+        ∙ (again-here 3 10 (effectBytes (effectAt (drop at s) 0)) (effect-kind _ r) (effect-length r)
+        (effect-again (drop at s) (left-bytes s at h)))
 
 -- ---- what is laid out reads as what it was laid out from
 
@@ -248,7 +269,8 @@ block-read k rest h = λ i.
     }
 
 effect-read : (e : Effect) (rest : List ℕ) → HeldEffect e → effectAt (effectBytes e ++ rest) 0 ≡ e
-effect-read e rest h = λ i. record { variable = e .variable; how = e .how; constant = signed-again (e .constant) (h .constant) i }
+effect-read e rest h =
+    λ i. record { variable = e .variable; how = e .how; constant = signed-again (e .constant) (h .constant) i }
 
 -- at any place: the kind is found, the record is whole, the rest follows
 pub record Found (s : List ℕ) (at number : ℕ) (rest : List ℕ) : Type 0 where
@@ -260,17 +282,21 @@ pub record Found (s : List ℕ) (at number : ℕ) (rest : List ℕ) : Type 0 whe
 module _ (s : List ℕ) (at : ℕ) (rest : List ℕ) where
   found :
       (number : ℕ) (bytes : List ℕ) → drop at s ≡ bytes ++ rest → kindNumber (bytes ++ rest) 0 ≡ number
-      → lengthAt (bytes ++ rest) 0 ≡ kindOf number .length → kindOf number .length ≡ length bytes → 0 < length bytes → Found s at number rest
+      → lengthAt (bytes ++ rest) 0 ≡ kindOf number .length → kindOf number .length ≡ length bytes → 0 < length bytes
+      → Found s at number rest
   found number bytes d k told l some =
       let kind : kindAt s at ≡ kindOf number =
       ap kindOf (kind-same s (drop at s) at 0 (left s at) ∙ (ap (λ (r : List ℕ). kindNumber r 0) d ∙ k)) in
       let size : kindAt s at .length ≡ length bytes = ap (λ (m : Kind). m .length) kind ∙ l in
-      let all : length s - at ≡ length bytes + length rest = sym (length-drop at s) ∙ (ap length d ∙ length-append bytes rest) in
+      let all : length s - at ≡ length bytes + length rest = sym (length-drop at s)
+      ∙ (ap length d ∙ length-append bytes rest) in
       record {
         kind = kind;
-        size = length-same s (drop at s) at 0 (left s at) ∙ (ap (λ (r : List ℕ). lengthAt r 0) d ∙ (told ∙ sym (ap (λ (m : Kind). m .length) kind)));
+        size = length-same s (drop at s) at 0 (left s at)
+            ∙ (ap (λ (r : List ℕ). lengthAt r 0) d ∙ (told ∙ sym (ap (λ (m : Kind). m .length) kind)));
         room = omega (arith, all, some, size);
-        on = ap (λ (n : ℕ). drop (at + n) s) size ∙ (sym (drop-drop (length bytes) at s) ∙ (ap (drop (length bytes)) d ∙ drop-append-seam bytes rest));
+        on = ap (λ (n : ℕ). drop (at + n) s) size
+            ∙ (sym (drop-drop (length bytes) at s) ∙ (ap (drop (length bytes)) d ∙ drop-append-seam bytes rest));
       }
 
   pub counter-found : (c : Counter) → drop at s ≡ counterBytes c ++ rest → Found s at 1 rest
@@ -287,14 +313,17 @@ module _ (s : List ℕ) (at : ℕ) (rest : List ℕ) where
 
   -- and where its fields fit their types it is the one laid out
   pub counter-back : (c : Counter) → HeldCounter c → drop at s ≡ counterBytes c ++ rest → counterAt s at ≡ c
-  counter-back c h d = counter-same s (drop at s) at 0 (left s at) ∙ (ap (λ (r : List ℕ). counterAt r 0) d ∙ counter-read c rest h)
+  counter-back c h d = counter-same s (drop at s) at 0 (left s at)
+      ∙ (ap (λ (r : List ℕ). counterAt r 0) d ∙ counter-read c rest h)
 
   pub block-back : (k : Block) → HeldBlock k → drop at s ≡ blockBytes k ++ rest → blockAt s at (k .effects) ≡ k
   block-back k h d =
-      block-same s (drop at s) at 0 (left s at) (k .effects) ∙ (ap (λ (r : List ℕ). blockAt r 0 (k .effects)) d ∙ block-read k rest h)
+      block-same s (drop at s) at 0 (left s at) (k .effects)
+      ∙ (ap (λ (r : List ℕ). blockAt r 0 (k .effects)) d ∙ block-read k rest h)
 
   pub effect-back : (e : Effect) → HeldEffect e → drop at s ≡ effectBytes e ++ rest → effectAt s at ≡ e
-  effect-back e h d = effect-same s (drop at s) at 0 (left s at) ∙ (ap (λ (r : List ℕ). effectAt r 0) d ∙ effect-read e rest h)
+  effect-back e h d = effect-same s (drop at s) at 0 (left s at)
+      ∙ (ap (λ (r : List ℕ). effectAt r 0) d ∙ effect-read e rest h)
 
 -- so a record is found inside the input
 pub found-inside : {s : List ℕ} {at number : ℕ} {rest : List ℕ} → Found s at number rest → at < length s

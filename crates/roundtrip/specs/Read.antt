@@ -1,4 +1,5 @@
--- From the reader's answer to what is judged: a refusal as it is, and of an accepted form its body, which is sound. Rests on form's Answer and on Sound.
+-- From the reader's answer to what is judged: a refusal as it is, and of an accepted form its body, which is sound.
+-- Rests on form's Answer and on Sound.
 use mathlib.Core.Path.{_≡_, sym, ap, subst, _∙_}
 use mathlib.Core.List.{List}
 use Prim.Native.Nat.{ℕ}
@@ -19,7 +20,8 @@ module _ (s : List ℕ) (r : Reading) (e : r ≡ reading s) where
     read-accepted = read-as Accepted v
 
     pub read-body : r .body ≡ bodyOf s
-    read-body = ap (λ (x : Reading). x .body) e ∙ ap (λ (v : Verdict). when (accepted v) (bodyOf s) zeroBody) read-accepted
+    read-body = ap (λ (x : Reading). x .body) e ∙ ap (λ (v : Verdict). when (accepted v) (bodyOf s) zeroBody)
+        read-accepted
 
     pub read-sound : Sound (r .body)
     read-sound = subst Sound (sym read-body) (sound s read-accepted)

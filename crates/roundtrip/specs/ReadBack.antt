@@ -1,8 +1,9 @@
--- What is written reads back the same, up to the counts: the body read from the bytes that a body is laid out as is that body with zeros past its counts.
--- It holds of every body whose fields fit their types and whose counts fit, accepted or not. Rests on Laid, Kinds and Unique (bodies that are the same).
+-- What is written reads back the same, up to the counts: the body read from the bytes that a body is laid out as is
+-- that body with zeros past its counts. It holds of every body whose fields fit their types and whose counts fit,
+-- accepted or not. Rests on Laid, Kinds and Unique (bodies that are the same).
 use mathlib.Core.Bool.{true}
 use mathlib.Core.List.{List, [], _∷_, _++_}
-use mathlib.Core.Path.{_≡_, refl, ap, sym, subst, _∙_}
+use mathlib.Core.Path.{_≡_, ap, sym, subst, _∙_}
 use Prim.Native.Nat.{ℕ, zero, suc, _≤_}
 use native.Mathlib.Omega.{arith}
 use lib.ListN.{length, getD, take, drop, length-drop}
@@ -12,12 +13,16 @@ use Rattle.form.specs.declared.Block.{Block}
 use Rattle.form.specs.declared.Effect.{Effect}
 use Rattle.form.specs.declared.Body.{Body}
 use Rattle.form.specs.declared.Verdict.the-variants.{Accepted}
-use Rattle.form.specs.Form.{counterRole, blockRole, effectRole, kindOf, kindAt, recordsFrom, gather, ownEffects, counterAt, blockAt, effectAt, blocksIn, effectsIn, zeroBlock, zeroEffect, bodyWith, bodyOf, upToCounts, counterBytes, blockBytes, effectBytes, layBlocks, lay, countsFit, judge}
+use Rattle.form.specs.Form.{counterRole, blockRole, effectRole, kindOf, kindAt, recordsFrom, gather, ownEffects}
+use Rattle.form.specs.Form.{blockAt, effectAt, blocksIn, effectsIn, zeroBlock, zeroEffect, bodyWith, bodyOf}
+use Rattle.form.specs.Form.{upToCounts, counterBytes, blockBytes, effectBytes, layBlocks, lay, countsFit, judge}
 use Rattle.form.specs.Answer.{reading}
 use Rattle.form.specs.Laying.{blocksCounted, counts-known}
 use Rattle.form.specs.Records.{next, records-end, records-step}
 use Rattle.roundtrip.specs.Digits.{OfBytes, Each, each-append, each-byte}
-use Rattle.roundtrip.specs.Kinds.{HeldCounter, HeldBlock, HeldEffect, zero-block, zero-effect, Found, found-inside, counter-found, block-found, effect-found, counter-back, block-back, effect-back, counter-each, block-each, effect-each}
+use Rattle.roundtrip.specs.Kinds.{HeldCounter, HeldBlock, HeldEffect, zero-block, zero-effect, Found}
+use Rattle.roundtrip.specs.Kinds.{found-inside, counter-found, block-found, effect-found, counter-back}
+use Rattle.roundtrip.specs.Kinds.{block-back, effect-back, counter-each, block-each, effect-each}
 use Rattle.roundtrip.specs.Filled.{effectsCounted}
 use Rattle.roundtrip.specs.Laid.{Laid, none, block, effect, lays}
 use Rattle.roundtrip.specs.Unique.{counts-add, lay-counted}
@@ -67,7 +72,8 @@ module _ (s : List ℕ) where
       }
 
   block-step :
-      (at : ℕ) (ks : List Block) (es : List Effect) (k : Block) (t : List ℕ) → Found s at 2 t → blockAt s at (k .effects) ≡ k
+      (at : ℕ) (ks : List Block) (es : List Effect) (k : Block) (t : List ℕ) → Found s at 2 t
+      → blockAt s at (k .effects) ≡ k
       → ReadAs s (next s at) (k .effects) ks es → ReadAs s at 0 (k ∷ ks) es
   unfolding gather ownEffects kindOf
   block-step at ks es k t f here r =
@@ -80,12 +86,14 @@ module _ (s : List ℕ) where
       }
 
   read-back :
-      {t : List ℕ} {own : ℕ} {ks : List Block} {es : List Effect} → Laid t own ks es → ((i : ℕ) → HeldBlock (getD ks i zeroBlock))
+      {t : List ℕ} {own : ℕ} {ks : List Block} {es : List Effect} → Laid t own ks es
+      → ((i : ℕ) → HeldBlock (getD ks i zeroBlock))
       → ((i : ℕ) → HeldEffect (getD es i zeroEffect)) → (at : ℕ) → drop at s ≡ t → ReadAs s at own ks es
   read-back none hk he at d = nothing-left at d
   read-back (effect {t = t} {own = own} {ks = ks} {es = es} e l) hk he at d =
       let f = effect-found s at t e d in
-      effect-step at own ks es e t f (effect-back s at t e (he 0) d) (read-back l hk (λ i. he (suc i)) (next s at) (f .on))
+      effect-step at own ks es e t f (effect-back s at t e (he 0) d)
+      (read-back l hk (λ i. he (suc i)) (next s at) (f .on))
   read-back (block {t = t} {ks = ks} {es = es} k l) hk he at d =
       let f = block-found s at t k d in
       block-step at ks es k t f (block-back s at t k (hk 0) d) (read-back l (λ i. hk (suc i)) he (next s at) (f .on))
@@ -93,16 +101,20 @@ module _ (s : List ℕ) where
 -- ---- what is laid out is bytes
 
 laid-each :
-    {t : List ℕ} {own : ℕ} {ks : List Block} {es : List Effect} → Laid t own ks es → ((i : ℕ) → HeldBlock (getD ks i zeroBlock))
+    {t : List ℕ} {own : ℕ} {ks : List Block} {es : List Effect} → Laid t own ks es
+    → ((i : ℕ) → HeldBlock (getD ks i zeroBlock))
     → ((i : ℕ) → HeldEffect (getD es i zeroEffect)) → Each t
 laid-each none hk he = tt
-laid-each (effect {t = t} e l) hk he = each-append (effectBytes e) t (effect-each e (he 0)) (laid-each l hk (λ i. he (suc i)))
-laid-each (block {t = t} k l) hk he = each-append (blockBytes k) t (block-each k (hk 0)) (laid-each l (λ i. hk (suc i)) he)
+laid-each (effect {t = t} e l) hk he = each-append (effectBytes e) t (effect-each e (he 0))
+    (laid-each l hk (λ i. he (suc i)))
+laid-each (block {t = t} k l) hk he = each-append (blockBytes k) t (block-each k (hk 0))
+    (laid-each l (λ i. hk (suc i)) he)
 
 -- ---- the theorem
 
 -- what holds of every entry holds of every entry up to a count
-taken : {A : Type 0} (P : A → Type 0) (z : A) → P z → (n : ℕ) (l : List A) → ((i : ℕ) → P (getD l i z)) → (i : ℕ) → P (getD (take n l) i z)
+taken : {A : Type 0} (P : A → Type 0) (z : A) → P z → (n : ℕ) (l : List A) → ((i : ℕ) → P (getD l i z)) → (i : ℕ)
+    → P (getD (take n l) i z)
 taken P z p zero l h i = p
 taken P z p (suc n) [] h i = p
 taken P z p (suc n) (x ∷ l) h zero = h zero
@@ -145,10 +157,12 @@ module _ (body : Body) (h : Held body) (fit : countsFit body ≡ true) where
 
   pub body-back : bodyOf (lay body) ≡ upToCounts body
   unfolding upToCounts
-  body-back = λ i. bodyWith (counter-back (lay body) 0 rest (body .counter) (h .counter) (lay-counted body fit) i) (blocks-back i) (effects-back i)
+  body-back = λ i. bodyWith (counter-back (lay body) 0 rest (body .counter) (h .counter) (lay-counted body fit) i)
+      (blocks-back i) (effects-back i)
 
   -- so the reader answers it, where it accepts what is written
-  pub reading-back : judge (lay body) ≡ Accepted → reading (lay body) ≡ record { verdict = Accepted; body = upToCounts body }
+  pub reading-back : judge (lay body) ≡ Accepted
+      → reading (lay body) ≡ record { verdict = Accepted; body = upToCounts body }
   reading-back a = rw (a, body-back)
 
   -- and what is laid out is bytes
@@ -156,4 +170,5 @@ module _ (body : Body) (h : Held body) (fit : countsFit body ≡ true) where
   lay-bytes =
       subst OfBytes (sym (lay-counted body fit))
       (each-byte (counterBytes (body .counter) ++ rest)
-      (each-append (counterBytes (body .counter)) rest (counter-each (body .counter) (h .counter)) (laid-each laid blocks-held effects-held)))
+      (each-append (counterBytes (body .counter)) rest (counter-each (body .counter) (h .counter))
+      (laid-each laid blocks-held effects-held)))

@@ -1,7 +1,8 @@
--- What the layers above may count on in the body of an accepted form. WellFormed has one fact for each rule of document 01 that the reader sees to; Conflict's
--- Sound, which routes and conflicts ask for, follows. Blocks and effects are taken up to their counts; past them stand zeros, for which every fact holds too, so
--- none asks for a place below the count. Rests on Form and Conflict; the proof on Acceptance.
-use mathlib.Core.Bool.{Bool, true, _||_, _&&_}
+-- What the layers above may count on in the body of an accepted form. WellFormed has one fact for each rule of document
+-- 01 that the reader sees to; Conflict's Sound, which routes and conflicts ask for, follows. Blocks and effects are
+-- taken up to their counts; past them stand zeros, for which every fact holds too, so none asks for a place below the
+-- count. Rests on Form and Conflict; the proof on Acceptance.
+use mathlib.Core.Bool.{true, _&&_}
 use mathlib.Core.List.{List, [], _∷_}
 use mathlib.Core.Logic.{inl, inr}
 use mathlib.Core.Path.{_≡_, refl, ap, sym, subst, _∙_}
@@ -9,7 +10,7 @@ use Prim.Native.Nat.{ℕ, zero, suc, _+_, _<_, _≤_}
 use native.Mathlib.Nat.{zero-add, add-zero}
 use native.Mathlib.Omega.{arith}
 use borrow.Author.Tests.{leb-false, ltb-false, lt-ltb, le-leb, eq-eqb}
-use lib.Dec.{ltb, leb, eqb, lit<, lit≤}
+use lib.Dec.{ltb, eqb, lit<, lit≤}
 use lib.IntN.{pos}
 use lib.ListN.{length, getD, take, drop}
 use lib.Seq.{getD-take}
@@ -21,13 +22,18 @@ use Rattle.form.specs.declared.Block.{Block}
 use Rattle.form.specs.declared.Effect.{Effect}
 use Rattle.form.specs.declared.Body.{Body}
 use Rattle.form.specs.declared.Verdict.the-variants.{Accepted}
-use Rattle.form.specs.Form.{blockRole, isBlock, recordsFrom, badEnd, farTarget, endFault, judgeEnds, judge, gather, ownEffects, blockAt, effectAt, blocksIn, effectsIn, zeroBlock, zeroEffect, fill, bodyOf, sumOwn, countsFit}
+use Rattle.form.specs.Form.{blockRole, isBlock, recordsFrom, badEnd, farTarget, endFault, judgeEnds, judge, gather}
+use Rattle.form.specs.Form.{ownEffects, blockAt, effectAt, blocksIn, effectsIn, zeroBlock, zeroEffect, fill, bodyOf}
+use Rattle.form.specs.Form.{sumOwn, countsFit}
 use Rattle.form.specs.Conflict.{block as block-of, effectsBelow, effectsOf, exitsBy, exits, Onward, Sound}
 use Rattle.form.specs.Laying.{blocksCounted}
 use Rattle.form.specs.Records.{next}
 use Rattle.roundtrip.specs.Digits.{zero-fits, signed4-fits}
 use Rattle.roundtrip.specs.Filled.{effectsCounted, fill-length}
-use Rattle.roundtrip.specs.Acceptance.{judged-out, no-fault, second-fails, no-target, some-before, one-more, BlockRecord, EffectRecord, Passing, finish, block, effect, AcceptedForm, accepted-form, Counts, counts, blocks-after, effects-after, blocks-read, effects-read}
+use Rattle.roundtrip.specs.Acceptance.{judged-out, no-fault, second-fails, no-target, some-before, one-more}
+use Rattle.roundtrip.specs.Acceptance.{BlockRecord, EffectRecord, Passing, finish, block, effect, AcceptedForm}
+use Rattle.roundtrip.specs.Acceptance.{accepted-form, Counts, counts, blocks-after, effects-after, blocks-read}
+use Rattle.roundtrip.specs.Acceptance.{effects-read}
 
 abbrev pub blockOf : Body → ℕ → Block
 blockOf body b = getD (take (body .count) (body .blocks)) b zeroBlock
@@ -127,7 +133,8 @@ module _ (s : List ℕ) where
         variable = good .variable;
         relation = good .relation;
         constant = signed4-fits s _;
-        last-ends = λ l. omega (arith, ltb-false 0 ending (second-fails (ltb 0 ending) (le-leb n (b + 1) (omega arith)) late));
+        last-ends = λ l. omega
+            (arith, ltb-false 0 ending (second-fails (ltb 0 ending) (le-leb n (b + 1) (omega arith)) late));
         only-last = λ l. some-before ending (second-fails (eqb ending 0) (lt-ltb (b + 1) n (omega arith)) early);
         jump-above = k .jump-above;
         jump-inside = λ u. leb-false _ _ (inside u);
@@ -149,24 +156,33 @@ module _ (s : List ℕ) where
   effect-well : (at b e : ℕ) → EffectRecord s at b e → WellFormedEffect (effectAt s at)
   effect-well at b e f =
       let good = f .fields in
-      record { variable = good .variable; how = good .how; constant = signed4-fits s _; no-constant = good .no-constant }
+      record {
+        variable = good .variable;
+        how = good .how;
+        constant = signed4-fits s _;
+        no-constant =
+            good .no-constant;
+      }
 
 -- ---- record by record
 
 -- the block at hand is number b, and those after it follow
 here-or-later :
-    {n b : ℕ} {k : Block} (ks : List Block) → WellFormedBlock n b k → ((i : ℕ) → WellFormedBlock n (b + 1 + i) (getD ks i zeroBlock))
+    {n b : ℕ} {k : Block} (ks : List Block) → WellFormedBlock n b k
+    → ((i : ℕ) → WellFormedBlock n (b + 1 + i) (getD ks i zeroBlock))
     → (i : ℕ) → WellFormedBlock n (b + i) (getD (k ∷ ks) i zeroBlock)
 here-or-later {b = b} ks h l zero = rw (add-zero b) h
 here-or-later {b = b} ks h l (suc i) = rw (← (one-more b i)) (l i)
 
-first-or-later : {e : Effect} (es : List Effect) → WellFormedEffect e → ((i : ℕ) → WellFormedEffect (getD es i zeroEffect)) → (i : ℕ) → WellFormedEffect (getD (e ∷ es) i zeroEffect)
+first-or-later : {e : Effect} (es : List Effect) → WellFormedEffect e
+    → ((i : ℕ) → WellFormedEffect (getD es i zeroEffect)) → (i : ℕ) → WellFormedEffect (getD (e ∷ es) i zeroEffect)
 first-or-later es h l zero = h
 first-or-later es h l (suc i) = l i
 
 module _ (s : List ℕ) where
   blocks-well :
-      {at b e : ℕ} {records : List ℕ} → Passing s at b e records → (n : ℕ) → n ≡ b + length (blocksIn s records) → judgeEnds s n records b ≡ Accepted
+      {at b e : ℕ} {records : List ℕ} → Passing s at b e records → (n : ℕ) → n ≡ b + length (blocksIn s records)
+      → judgeEnds s n records b ≡ Accepted
       → (i : ℕ) → WellFormedBlock n (b + i) (getD (blocksIn s records) i zeroBlock)
   unfolding gather judgeEnds
   blocks-well (finish {b = b} l ended) n c a i = past n (b + i) (omega arith)
@@ -182,11 +198,14 @@ module _ (s : List ℕ) where
       let a′ : judgeEnds s n rest (b + 0) ≡ Accepted = rw (f .role) at more in
       rw (f .role) (blocks-well w n c′ (subst (λ (m : ℕ). judgeEnds s n rest m ≡ Accepted) (add-zero b) a′) i)
 
-  effects-well : {at b e : ℕ} {records : List ℕ} → Passing s at b e records → (i : ℕ) → WellFormedEffect (getD (effectsIn s records) i zeroEffect)
+  effects-well : {at b e : ℕ} {records : List ℕ} → Passing s at b e records → (i : ℕ)
+      → WellFormedEffect (getD (effectsIn s records) i zeroEffect)
   unfolding gather
-  effects-well (finish l ended) i = record { variable = lit≤ tt; how = lit≤ tt; constant = zero-fits; no-constant = λ u. refl }
+  effects-well (finish l ended) i =
+      record { variable = lit≤ tt; how = lit≤ tt; constant = zero-fits; no-constant = λ u. refl }
   effects-well (block k w) i = rw (k .role) (effects-well w i)
-  effects-well (effect {at = at} {b = b} {e = e} {rest = rest} f w) i = rw (f .role) (first-or-later (effectsIn s rest) (effect-well s at b e f) (effects-well w) i)
+  effects-well (effect {at = at} {b = b} {e = e} {rest = rest} f w) i =
+      rw (f .role) (first-or-later (effectsIn s rest) (effect-well s at b e f) (effects-well w) i)
 
 -- ---- the theorem
 
@@ -198,7 +217,8 @@ module _ (s : List ℕ) (a : judge s ≡ Accepted) where
   number = counts s read
 
   -- the counter passes the judging of the blocks
-  ends-after : (n : ℕ) → judgeEnds s n (recordsFrom s 0) 0 ≡ Accepted → judgeEnds s n (recordsFrom s (next s 0)) 0 ≡ Accepted
+  ends-after : (n : ℕ) → judgeEnds s n (recordsFrom s 0) 0 ≡ Accepted
+      → judgeEnds s n (recordsFrom s (next s 0)) 0 ≡ Accepted
   unfolding judgeEnds
   ends-after n e =
       let e′ : judgeEnds s n (0 ∷ recordsFrom s (next s 0)) 0 ≡ Accepted = rw (read .starts) at e in
@@ -213,12 +233,15 @@ module _ (s : List ℕ) (a : judge s ≡ Accepted) where
   block-read : (b : ℕ) → WellFormedBlock (bodyOf s .count) b (blockOf (bodyOf s) b)
   block-read b =
       let n = bodyOf s .count in
-      let all : n ≡ 0 + length (blocksIn s (recordsFrom s (next s 0))) = ap length (blocks-after s read) ∙ sym (zero-add _) in
-      subst (λ (p : ℕ × List Block). WellFormedBlock n (p .0) (getD (p .1) b zeroBlock)) (λ i. (zero-add b i, sym blocks-same i))
+      let all : n ≡ 0 + length (blocksIn s (recordsFrom s (next s 0))) = ap length (blocks-after s read)
+      ∙ sym (zero-add _) in
+      subst (λ (p : ℕ × List Block). WellFormedBlock n (p .0) (getD (p .1) b zeroBlock))
+      (λ i. (zero-add b i, sym blocks-same i))
       (blocks-well s (read .passing) n all (ends-after n (number .ended .ends)) b)
 
   effect-read : (i : ℕ) → WellFormedEffect (effectOf (bodyOf s) i)
-  effect-read i = subst (λ (es : List Effect). WellFormedEffect (getD es i zeroEffect)) (sym effects-same) (effects-well s (read .passing) i)
+  effect-read i = subst (λ (es : List Effect). WellFormedEffect (getD es i zeroEffect)) (sym effects-same)
+      (effects-well s (read .passing) i)
 
   pub well-formed : WellFormed (bodyOf s)
   well-formed =
@@ -241,7 +264,8 @@ module _ (s : List ℕ) (a : judge s ≡ Accepted) where
 
 -- a target that some exit has is used
 by-exits :
-    (P : ℕ → Type 0) (ending jump fall : ℕ) → (0 < ending → P jump) → (1 < ending → P fall) → (o : ℕ × ℕ) → Mem o (exitsBy ending jump fall) → P (o .1)
+    (P : ℕ → Type 0) (ending jump fall : ℕ) → (0 < ending → P jump) → (1 < ending → P fall) → (o : ℕ × ℕ)
+    → Mem o (exitsBy ending jump fall) → P (o .1)
 by-exits P zero jump fall j f o m = absurd m
 by-exits P (suc zero) jump fall j f o (inl e) = subst (λ (q : ℕ × ℕ). P (q .1)) (sym e) (j (omega arith))
 by-exits P (suc zero) jump fall j f o (inr m) = absurd m
@@ -249,7 +273,8 @@ by-exits P (suc (suc zero)) jump fall j f o (inl e) = subst (λ (q : ℕ × ℕ)
 by-exits P (suc (suc zero)) jump fall j f o (inr (inl e)) = subst (λ (q : ℕ × ℕ). P (q .1)) (sym e) (f (omega arith))
 by-exits P (suc (suc zero)) jump fall j f o (inr (inr m)) = absurd m
 by-exits P (suc (suc (suc zero))) jump fall j f o (inl e) = subst (λ (q : ℕ × ℕ). P (q .1)) (sym e) (j (omega arith))
-by-exits P (suc (suc (suc zero))) jump fall j f o (inr (inl e)) = subst (λ (q : ℕ × ℕ). P (q .1)) (sym e) (f (omega arith))
+by-exits P (suc (suc (suc zero))) jump fall j f o (inr (inl e)) = subst (λ (q : ℕ × ℕ). P (q .1)) (sym e)
+    (f (omega arith))
 by-exits P (suc (suc (suc zero))) jump fall j f o (inr (inr m)) = absurd m
 by-exits P (suc (suc (suc (suc n)))) jump fall j f o m = absurd m
 
@@ -277,7 +302,11 @@ module _ (body : Body) (w : WellFormed body) where
         some = w .some-block;
         few = w .few-blocks;
         onward = onward;
-        going = λ b l. ((1, blockOf body b .jump), left-by-jump _ _ (blockOf body b .fall) (w .blocks b .only-last l) (w .blocks b .ending));
+        going = λ b l. (
+          (1, blockOf body b .jump),
+          left-by-jump _ _ (blockOf body b .fall) (w .blocks b .only-last l)
+              (w .blocks b .ending),
+        );
         known = λ b. w .blocks b .relation;
         fits = fits;
       }
@@ -308,10 +337,12 @@ unfolding effectsOf
 sound s a = is-sound (bodyOf s) (well-formed s a) fits
   where
     each : (i : ℕ) → SFits w32 (getD (effectsIn s (recordsFrom s 0)) i zeroEffect .constant)
-    each i = subst (λ (es : List Effect). WellFormedEffect (getD es i zeroEffect)) (sym (effects-after s (read s a))) (effects-well s (read s a .passing) i) .constant
+    each i = subst (λ (es : List Effect). WellFormedEffect (getD es i zeroEffect)) (sym (effects-after s (read s a)))
+        (effects-well s (read s a .passing) i) .constant
 
     fits : (b : ℕ) (e : Effect) → Mem e (effectsOf (bodyOf s) b) → SFits w32 (e .constant)
     fits b e m =
-        of-filled (λ (e : Effect). SFits w32 (e .constant)) zeroEffect 256 (effectsIn s (recordsFrom s 0)) zero-fits each e
+        of-filled (λ (e : Effect). SFits w32 (e .constant)) zeroEffect 256 (effectsIn s (recordsFrom s 0)) zero-fits
+        each e
         (dropped (λ (e : Effect). SFits w32 (e .constant)) zeroEffect (effectsBelow (bodyOf s) b) (bodyOf s .effects) e
         (taken (λ (e : Effect). SFits w32 (e .constant)) zeroEffect (block-of (bodyOf s) b .effects) _ e m))

@@ -1,5 +1,6 @@
--- The promises of crate form leave one answer and one content of the lent bytes, for every public call and every input, refusals too; and two bodies that
--- are the same up to their counts get the same answer and bytes from the writer. Rests on Form, Answer and Laid.
+-- The promises of crate form leave one answer and one content of the lent bytes, for every public call and every input,
+-- refusals too; and two bodies that are the same up to their counts get the same answer and bytes from the writer.
+-- Rests on Form, Answer and Laid.
 use mathlib.Core.Bool.{Bool, true, false, _&&_}
 use mathlib.Core.List.{List, _++_}
 use mathlib.Core.Path.{_≡_, ap, sym, _∙_}
@@ -37,7 +38,8 @@ abbrev pub Owed : Body → List ℕ → Written → List ℕ → Type 0
 Owed = Wrote
 
 pub one-writing :
-    (body : Body) (out : List ℕ) (r q : Written) (held kept : List ℕ) → Owed body out r held → Owed body out q kept → (r ≡ q) × (held ≡ kept)
+    (body : Body) (out : List ℕ) (r q : Written) (held kept : List ℕ) → Owed body out r held → Owed body out q kept
+    → (r ≡ q) × (held ≡ kept)
 one-writing body out r q held kept o p =
     let same : r ≡ q = o .0 ∙ sym (p .0) in
     (same, o .1 .0 ∙ (ap (λ (w : Written). heldAfter w (lay body) out) same ∙ sym (p .1 .0)))
@@ -72,7 +74,8 @@ module _ (a b : Body) (s : Same a b) where
   same-lay : countsFit a ≡ true → lay a ≡ lay b
   same-lay h =
       lay-counted a h
-      ∙ ((λ i. counterBytes (s .counter i) ++ layBlocks (s .blocks i) (s .effects i)) ∙ sym (lay-counted b (sym same-counts ∙ h)))
+      ∙ ((λ i. counterBytes (s .counter i) ++ layBlocks (s .blocks i) (s .effects i))
+      ∙ sym (lay-counted b (sym same-counts ∙ h)))
 
   -- what is owed for one is owed for the other
   pub same-owed : (out : List ℕ) (r : Written) (held : List ℕ) → Owed a out r held → Owed b out r held
@@ -81,18 +84,22 @@ module _ (a b : Body) (s : Same a b) where
       answer : Bool → List ℕ → Written
       answer fits form =
           when fits
-          (asJudged (judge form) (when (ltb (length out) (length form)) (Unwritten 42 (length form)) (Bytes (length form))))
+          (asJudged (judge form)
+          (when (ltb (length out) (length form)) (Unwritten 42 (length form)) (Bytes (length form))))
           (Unwritten 14 0)
 
       fit : countsFit a ≡ true → Owed b out r held
-      fit h = wrote-as b out r held (o .0 ∙ (λ i. answer (same-counts i) (same-lay h i))) (o .1 .0 ∙ (λ i. heldAfter r (same-lay h i) out))
+      fit h = wrote-as b out r held (o .0 ∙ (λ i. answer (same-counts i) (same-lay h i)))
+          (o .1 .0 ∙ (λ i. heldAfter r (same-lay h i) out))
 
       unfit : countsFit a ≡ false → Owed b out r held
       unfit h =
           let refusal : r ≡ Unwritten 14 0 = o .0 ∙ sym (counts-refused a (length out) h) in
           wrote-as b out r held (refusal ∙ counts-refused b (length out) (sym same-counts ∙ h))
-          (o .1 .0 ∙ (ap (λ (w : Written). heldAfter w (lay a) out) refusal ∙ sym (ap (λ (w : Written). heldAfter w (lay b) out) refusal)))
+          (o .1 .0 ∙ (ap (λ (w : Written). heldAfter w (lay a) out) refusal
+          ∙ sym (ap (λ (w : Written). heldAfter w (lay b) out) refusal)))
 
   pub same-body :
-      (out : List ℕ) (r q : Written) (held kept : List ℕ) → Owed a out r held → Owed b out q kept → (r ≡ q) × (held ≡ kept)
+      (out : List ℕ) (r q : Written) (held kept : List ℕ) → Owed a out r held → Owed b out q kept
+      → (r ≡ q) × (held ≡ kept)
   same-body out r q held kept o p = one-writing b out r q held kept (same-owed out r held o) p

@@ -13,7 +13,7 @@ ghost use Rattle.rows.specs.Structs.{tupleOf, structAt};
 ghost use Rattle.rows.specs.Steps.{sideOf, hitsOf, openedOf};
 ghost use Rattle.rows.specs.Rows.{pushed, sourceOf, manyOf, tailsBy, Ready, leftFrom};
 ghost use Rattle.rows.specs.Begun.{zeroRow, Holds, begunWith};
-use plan::Way;
+use plan_words::Way;
 
 // Of tails with one pair of sets of open edges, the jump set and the fall set, the first of the heaviest.
 #[repr(C)]
@@ -184,11 +184,11 @@ fn side_of(plan: &[u64], b: usize, way: usize, side: usize) -> Side
     requires { ⌜ (length (now plan) ≡ 1024) × ((b < 64) × ((way < 3) × (side < 3))) ⌝ }
     ensures { λ r. ⌜ r ≡ sideOf (now (plan .entry)) b way side ⌝ }
 {
-    let against = plan::word::against(plan, b, way, side);
-    let denied = plan::word::denied(plan, b, side);
-    let test = plan::word::test(plan, b);
-    let listed = plan::word::listed(plan, b, side);
-    let touched = plan::word::touched(plan, b);
+    let against = plan_words::against(plan, b, way, side);
+    let denied = plan_words::denied(plan, b, side);
+    let test = plan_words::test(plan, b);
+    let listed = plan_words::listed(plan, b, side);
+    let touched = plan_words::touched(plan, b);
     Side {
         against,
         denied,
@@ -278,7 +278,7 @@ pub fn build(
     'ways: while way < 3 {
         let jumps = side_of(plan, b, way, 1);
         let falls = side_of(plan, b, way, 2);
-        let cost = plan::word::cost(plan, b, way);
+        let cost = plan_words::cost(plan, b, way);
         let many = many_of(tails, way);
         let mut i = 0;
         while i < many {
@@ -301,7 +301,7 @@ pub fn begin(plan: &[u64], b: usize, count: usize, row: &mut [u64]) -> usize
 {
     if b + 1 == count {
         let way = Way {
-            weight: plan::word::cost(plan, b, 0),
+            weight: plan_words::cost(plan, b, 0),
             jumped: 0,
             fallen: 0,
         };

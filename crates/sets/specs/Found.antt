@@ -1,5 +1,6 @@
--- What is found of a body by joining what its blocks say along paths: the sets that the walks need, and the firsts that the conflict list pairs with each edge; and what
--- a call promises that is given what the blocks say (`SetsFrom`, `FoundFrom`). Trusted: definitions only. Rests on form's Conflict and on Local.
+-- What is found of a body by joining what its blocks say along paths: the sets that the walks need, and the firsts
+-- that the conflict list pairs with each edge; and what a call promises that is given what the blocks say
+-- (`SetsFrom`, `FoundFrom`). Trusted: definitions only. Rests on form's Conflict and on Local.
 use mathlib.Core.Path.{_≡_}
 use Prim.Native.Nat.{ℕ}
 use Rattle.words.specs.Tabled.{tabled, rows}
@@ -22,7 +23,8 @@ setsOf body = record {
   listed = edgeRows (listed (conflicts body));
 }
 
--- the firsts of the edge of block s by a way: the blocks j whose assignment, whose edge by jump, and whose edge by fall the list pairs with it
+-- the firsts of the edge of block s by a way: the blocks j whose assignment, whose edge by jump, and whose edge by
+-- fall the list pairs with it
 unfoldable pub firstsOf : Body → (way : ℕ) → Firsts
 firstsOf body way = record {
   assigned = rows (λ s j. assigned body j (s, way));

@@ -1,5 +1,5 @@
--- What a body's blocks say by themselves, as rows of words: word b of a row is a set of blocks k, bit k for block k. Trusted: definitions only. Rests on form's Conflict
--- and on the rows of words.Tabled.
+-- What a body's blocks say by themselves, as rows of words: word b of a row is a set of blocks k, bit k for block k.
+-- Trusted: definitions only. Rests on form's Conflict and on the rows of words.Tabled.
 use mathlib.Core.Path.{_≡_}
 use mathlib.Core.Bool.{Bool, _&&_}
 use mathlib.Core.List.{List}
@@ -16,8 +16,9 @@ use Rattle.sets.specs.declared.Local.{Local}
 abbrev pub edgeRows : (ℕ → Edge → Bool) → Edges
 edgeRows f = record { jump = rows (λ b k. f b (k, 1)); fall = rows (λ b k. f b (k, 2)) }
 
--- tests: the blocks that are tests; touched: the tests whose variable b has an effect on; denied: the edges that b's last effect on their variable, a constant,
--- conflicts with; jumping, falling: the edges that b's edge by jump, by fall, conflicts with
+-- tests: the blocks that are tests; touched: the tests whose variable b has an effect on; denied: the edges that b's
+-- last effect on their variable, a constant, conflicts with; jumping, falling: the edges that b's edge by jump, by
+-- fall, conflicts with
 unfoldable pub localOf : Body → Local
 localOf body = record {
   tests = setOf 64 (isTest body);

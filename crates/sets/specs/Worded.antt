@@ -22,7 +22,8 @@ module _ (body : Body) (w : Onward body) where
   targets-above : (way : ℕ) → Above (tabled 64 (λ b. wayTo way (exits body b)))
   targets-above way b h = rw (tabled-at (λ b. wayTo way (exits body b)) 64 b 64 h) (go (way-real way (exits body b)))
     where
-      go : (wayTo way (exits body b) ≡ 64) ⊎ Mem (way, wayTo way (exits body b)) (exits body b) → b < wayTo way (exits body b)
+      go : (wayTo way (exits body b) ≡ 64) ⊎ Mem (way, wayTo way (exits body b)) (exits body b)
+          → b < wayTo way (exits body b)
       go (inl e) = rw e h
       go (inr m) = w .above b (way, wayTo way (exits body b)) m
 

@@ -20,7 +20,7 @@ ghost use Rattle.sweep.specs.Driven.{started, following, finished};
 ghost use Rattle.sweep.specs.Ends.{allowedOf, WeightFew, answerOf, concluded};
 ghost use Rattle.sweep.specs.declared.SweepAnswer.the-variants.{Refused};
 use plan::Prepared;
-use plan::Way;
+use plan_words::Way;
 use rows::Entry;
 use rows::Tails;
 
@@ -116,8 +116,8 @@ fn sources_of(plan: &[u64], at: Drive) -> Sources
 {
     let lengths = at.lengths;
     let b = at.b - 1;
-    let jump = plan::word::target(plan, b, 1) as usize;
-    let fall = plan::word::target(plan, b, 2) as usize;
+    let jump = plan_words::target(plan, b, 1) as usize;
+    let fall = plan_words::target(plan, b, 2) as usize;
     let jumps = length_of(&lengths, jump);
     let falls = length_of(&lengths, fall);
     Sources {

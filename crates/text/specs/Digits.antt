@@ -35,17 +35,21 @@ tenth n (suc i) h (least, below, above) =
     let low : 10 ^ suc i ≤ n = rw e at (above (omega arith)) in
     (omega arith, omega (arith, pow-suc 10 (suc i)), λ more. rw g (omega (arith, pow-suc 10 i)))
 
-front : (f n j : ℕ) → ((m : ℕ) → m < 10 ^ f → 10 ≤ n → Fewest 10 1 m j → digits 10 j m ≡ digitsOf f m) → n < 10 ^ suc f → Fewest 10 1 n (suc j)
+front : (f n j : ℕ) → ((m : ℕ) → m < 10 ^ f → 10 ≤ n → Fewest 10 1 m j → digits 10 j m ≡ digitsOf f m) → n < 10 ^ suc f
+    → Fewest 10 1 n (suc j)
     → (b : Bool) → ltb n 10 ≡ b → digits 10 j (n / 10) ≡ cond b [] (digitsOf f (n / 10))
 front f n j more h w true e = rw (alone n j (ltb-true n 10 e) w)
-front f n j more h w false e = let l : 10 ≤ n = ltb-false n 10 e in more (n / 10) (omega (arith, pow-suc 10 f)) l (tenth n j l w)
+front f n j more h w false e = let l : 10 ≤ n =
+    ltb-false n 10 e in more (n / 10) (omega (arith, pow-suc 10 f)) l (tenth n j l w)
 
 -- as many digits as hold the number, and no more than there may be
 pub digits-are : (f n k : ℕ) → n < 10 ^ suc f → Fewest 10 1 n k → digits 10 k n ≡ digitsOf (suc f) n
 unfolding digitsOf
 digits-are f n zero h (least, below, above) = absurd (omega arith)
-digits-are zero n (suc j) h w = λ i. front zero n j (λ m l t w. absurd (omega arith)) h w (ltb n 10) refl i ++ (glyph-low n i ∷ [])
-digits-are (suc f) n (suc j) h w = λ i. front (suc f) n j (λ m l t w. digits-are f m j l w) h w (ltb n 10) refl i ++ (glyph-low n i ∷ [])
+digits-are zero n (suc j) h w =
+    λ i. front zero n j (λ m l t w. absurd (omega arith)) h w (ltb n 10) refl i ++ (glyph-low n i ∷ [])
+digits-are (suc f) n (suc j) h w =
+    λ i. front (suc f) n j (λ m l t w. digits-are f m j l w) h w (ltb n 10) refl i ++ (glyph-low n i ∷ [])
 
 few : (b : Bool) (l : List ℕ) (f x : ℕ) → length l ≤ f → length (cond b [] l ++ (x ∷ [])) ≤ suc f
 few true l f x h = omega arith

@@ -1,4 +1,5 @@
--- Parts of the report's text, after document 01, 'The trainer's cases': a number in digits, a line, a refusal, a route. Trusted: definitions only. A text is a list of ASCII codes. Rests on nothing.
+-- Parts of the report's text, after document 01, 'The trainer's cases': a number in digits, a line, a refusal, a route.
+-- Trusted: definitions only. A text is a list of ASCII codes. Rests on nothing.
 use mathlib.Core.Bool.{cond}
 use mathlib.Core.List.{List, [], _∷_, _++_}
 use Prim.Native.Nat.{ℕ, zero, suc, _+_, _/_, _%_}

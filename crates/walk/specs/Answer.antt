@@ -1,5 +1,5 @@
--- The full walk's answer, after document 01, 'Full walk' and 'Refusal numbers'. Trusted: definitions only. Rests on Owed and on theory's Route (walked, a side of
--- the answer and its route, the route's bytes, the bound).
+-- The full walk's answer, after document 01, 'Full walk' and 'Refusal numbers'. Trusted: definitions only. Rests on
+-- Owed and on theory's Route (walked, a side of the answer and its route, the route's bytes, the bound).
 use mathlib.Core.Bool.{cond}
 use mathlib.Core.List.{List, _++_}
 use mathlib.Core.Option.{Option, none, some}
@@ -13,8 +13,9 @@ use Rattle.plan.specs.Owed.{Owed}
 use Rattle.walk.specs.declared.WalkAnswer.{WalkAnswer}
 use Rattle.walk.specs.declared.WalkAnswer.the-variants.{Walked, Refused}
 
--- ---- an answer in document 01's numbers: number 0 is no refusal; of a refusal every other number but the place is zero
+-- ---- an answer in document 01's numbers
 
+-- Number 0 is no refusal; of a refusal every other number but the place is zero.
 pub record Values : Type 0 where
   pub number : ℕ
   pub place : ℕ
@@ -27,7 +28,14 @@ abbrev pub refusal : (number place : ℕ) → Values
 refusal number place = record { number = number; place = place; iterations = 0; weight = 0; bound = 0; walked = 0 }
 
 abbrev pub said : WalkAnswer → Values
-said (Walked iterations weight bound walked) = record { number = 0; place = 0; iterations = iterations; weight = weight; bound = bound; walked = walked }
+said (Walked iterations weight bound walked) = record {
+  number = 0;
+  place = 0;
+  iterations = iterations;
+  weight = weight;
+  bound = bound;
+  walked = walked;
+}
 said (Refused number place) = refusal number place
 
 -- ---- what is owed: the answer, and what the lent bytes hold after it
@@ -43,7 +51,14 @@ refused lent number place = (refusal number place, lent)
 abbrev pub routed : Body → List ℕ → (count : ℕ) → Option (ℕ × Path) → Outcome
 routed body lent count none = refused lent 43 0
 routed body lent count (some v) = (
-  record { number = 0; place = 0; iterations = count; weight = v .0; bound = boundOf count (v .0); walked = walked body },
+  record {
+    number = 0;
+    place = 0;
+    iterations = count;
+    weight = v .0;
+    bound = boundOf count (v .0);
+    walked = walked body;
+  },
   routeBytes body (v .1) ++ drop (body .count) lent,
 )
 
@@ -55,4 +70,5 @@ walkOutcome body side budget lent count =
 
 -- The full walk, for any bytes: the dearest iteration.
 abbrev pub WalkOwed : (form : List ℕ) → (budget : ℕ) → (lent : List ℕ) → Outcome → Type 0
-WalkOwed form budget lent outcome = Owed form (refused lent) (walkOutcome (bodyOf form) (dearest (bodyOf form)) budget lent) outcome
+WalkOwed form budget lent outcome = Owed form (refused lent)
+    (walkOutcome (bodyOf form) (dearest (bodyOf form)) budget lent) outcome

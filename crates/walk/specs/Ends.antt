@@ -1,4 +1,5 @@
--- The ends of the full walk: from what is found to what is owed, how large the weight is, and what a start owes. Rests on Answer, Terms, plan's Prepared and theory's Main.
+-- The ends of the full walk: from what is found to what is owed, how large the weight is, and what a start owes. Rests
+-- on Answer, Terms, plan's Prepared and theory's Main.
 use mathlib.Core.Path.{_≡_, refl, sym, ap, subst, _∙_}
 use mathlib.Core.Bool.{Bool, true, false, cond}
 use mathlib.Core.List.{List, _++_}
@@ -26,34 +27,41 @@ use Rattle.plan.specs.Prepared.PreparedOf.{refused as not-ready, ready}
 use Rattle.walk.specs.declared.WalkAnswer.{WalkAnswer}
 use Rattle.walk.specs.declared.WalkAnswer.the-variants.{Refused}
 use Rattle.walk.specs.Answer.{said, Outcome, refused, walkOutcome, WalkOwed}
-use Rattle.walk.specs.Terms.{walkedIn, soFar, tallied, Searched}
+use Rattle.walk.specs.Terms.{soFar, tallied, foundIn, Searched}
 
 -- ---- what is found
 
-same-end : {A : Type 0} (x y : Bool) (a b : A) → _≡_ {A = Option A} (cond x none (some a)) (cond y none (some b)) → (x ≡ y) × (x ≡ false → a ≡ b)
+same-end : {A : Type 0} (x y : Bool) (a b : A) → _≡_ {A = Option A} (cond x none (some a)) (cond y none (some b))
+    → (x ≡ y) × (x ≡ false → a ≡ b)
 same-end true true a b e = (refl, λ f. clash refl f)
 same-end true false a b e = let z : _≡_ {A = ℕ} 0 1 = cc in absurd (omega arith)
 same-end false true a b e = let z : _≡_ {A = ℕ} 0 1 = cc in absurd (omega arith)
 same-end false false a b e = (refl, λ f. cc)
 
-module _ (body : Body) (side : Side) (budget : ℕ) (found : List ℕ) (h : tallied budget found ≡ within budget (walked body) (wordsFound body (routeOn body side))) where
-  ends : (ltb budget (walkedIn found) ≡ ltb budget (walked body)) × (ltb budget (walkedIn found) ≡ false → soFar found ≡ (walked body, wordsFound body (routeOn body side)))
-  ends = same-end (ltb budget (walkedIn found)) (ltb budget (walked body)) _ _ h
+module _ (body : Body) (side : Side) (budget : ℕ) (found : List ℕ)
+    (h : tallied budget (foundIn found) ≡ within budget (walked body) (wordsFound body (routeOn body side))) where
+  ends : (ltb budget (getD found 0 0) ≡ ltb budget (walked body))
+      × (ltb budget (getD found 0 0) ≡ false
+      → soFar (foundIn found) ≡ (walked body, wordsFound body (routeOn body side)))
+  ends = same-end (ltb budget (getD found 0 0)) (ltb budget (walked body)) _ _ h
 
   no-route : (o : Option (ℕ × Path)) → none ≡ wordsFound body o → o ≡ none
   no-route none e = refl
   no-route (some v) e = let z : _≡_ {A = ℕ} 0 1 = cc in absurd (omega arith)
 
-  one-route : (o : Option (ℕ × Path)) (u : Words) → some u ≡ wordsFound body o → (v : ℕ × Path) × (o ≡ some v) × (u ≡ wordsOf body v)
+  one-route : (o : Option (ℕ × Path)) (u : Words) → some u ≡ wordsFound body o
+      → (v : ℕ × Path) × (o ≡ some v) × (u ≡ wordsOf body v)
   one-route none u e = let z : _≡_ {A = ℕ} 0 1 = cc in absurd (omega arith)
   one-route (some v) u e = (v, refl, cc)
 
-  none-found : ltb budget (walkedIn found) ≡ false → eqb (getD found 1 0) 1 ≡ false → routeOn body side ≡ none
+  none-found : ltb budget (getD found 0 0) ≡ false → eqb (getD found 1 0) 1 ≡ false → routeOn body side ≡ none
   none-found f a = no-route (routeOn body side) (rw a at (ap (λ (x : ℕ × Option Words). x .1) (ends .1 f)))
 
-  one-found : ltb budget (walkedIn found) ≡ false → eqb (getD found 1 0) 1 ≡ true
-      → (v : ℕ × Path) × (routeOn body side ≡ some v) × ((getD found 2 0, (getD found 3 0, getD found 4 0)) ≡ wordsOf body v)
-  one-found f a = one-route (routeOn body side) (getD found 2 0, (getD found 3 0, getD found 4 0)) (rw a at (ap (λ (x : ℕ × Option Words). x .1) (ends .1 f)))
+  one-found : ltb budget (getD found 0 0) ≡ false → eqb (getD found 1 0) 1 ≡ true
+      → (v : ℕ × Path) × (routeOn body side ≡ some v)
+      × ((getD found 2 0, (getD found 3 0, getD found 4 0)) ≡ wordsOf body v)
+  one-found f a = one-route (routeOn body side) (getD found 2 0, (getD found 3 0, getD found 4 0))
+      (rw a at (ap (λ (x : ℕ × Option Words). x .1) (ends .1 f)))
 
   -- ---- what is owed; n is the number of blocks
 
@@ -61,48 +69,81 @@ module _ (body : Body) (side : Side) (budget : ℕ) (found : List ℕ) (h : tall
     enough : ltb (length lent) (body .count) ≡ false
     enough = le-ltb (length lent) (body .count) (omega arith)
 
-    pub over-budget : budget < walkedIn found → refused lent 41 budget ≡ walkOutcome body side budget lent count
-    over-budget l = rw (enough, sym (ends .0) ∙ lt-ltb budget (walkedIn found) l)
+    pub over-budget : budget < getD found 0 0 → refused lent 41 budget ≡ walkOutcome body side budget lent count
+    over-budget l = rw (enough, sym (ends .0) ∙ lt-ltb budget (getD found 0 0) l)
 
-    pub without-route : walkedIn found ≤ budget → (getD found 1 0 ≡ 1 → ⊥) → refused lent 43 0 ≡ walkOutcome body side budget lent count
+    pub without-route : getD found 0 0 ≤ budget → (getD found 1 0 ≡ 1 → ⊥)
+        → refused lent 43 0 ≡ walkOutcome body side budget lent count
     without-route l a =
-        let f = le-ltb budget (walkedIn found) l in
+        let f = le-ltb budget (getD found 0 0) l in
         rw (enough, sym (ends .0) ∙ f, none-found f (ne-eqb (getD found 1 0) 1 a))
 
-    pub with-route : Sound body → walkedIn found ≤ budget → getD found 1 0 ≡ 1 → (held : List ℕ) → held ≡ bytesOf n (getD found 3 0) (getD found 4 0) ++ drop n lent
-        → _≡_ {A = Outcome} (record { number = 0; place = 0; iterations = count; weight = getD found 2 0; bound = boundOf count (getD found 2 0); walked = walkedIn found }, held)
+    pub with-route : Sound body → getD found 0 0 ≤ budget → getD found 1 0 ≡ 1 → (held : List ℕ)
+        → held ≡ bytesOf n (getD found 3 0) (getD found 4 0) ++ drop n lent
+        → _≡_ {A = Outcome} (
+          record {
+            number = 0;
+            place = 0;
+            iterations = count;
+            weight = getD found 2 0;
+            bound = boundOf count (getD found 2 0);
+            walked = getD found 0 0;
+          },
+          held,
+        )
         (walkOutcome body side budget lent count)
     unfolding bytesOf
     with-route g l a held h =
-        let f = le-ltb budget (walkedIn found) l in
+        let f = le-ltb budget (getD found 0 0) l in
         let (v, e, w) = one-found f (eq-eqb (getD found 1 0) 1 a) in
         let bytes : held ≡ routeBytes body (v .1) ++ drop (body .count) lent =
         h
         ∙ (λ i. bytesOf (sym size i) (w i .1 .0) (w i .1 .1) ++ drop (sym size i) lent)
-        ∙ ap (λ (l : List ℕ). l ++ drop (body .count) lent) (sym (bytes-words body (g .onward) (v .1) (best-leads body (side .cost) (side .prefers) v e .0))) in
-        rw (enough, sym (ends .0) ∙ f, e) (λ i. (record { number = 0; place = 0; iterations = count; weight = w i .0; bound = boundOf count (w i .0); walked = ends .1 f i .0 }, bytes i))
+        ∙ ap (λ (l : List ℕ). l ++ drop (body .count) lent)
+        (sym (bytes-words body (g .onward) (v .1) (best-leads body (side .cost) (side .prefers) v e .0))) in
+        rw (enough, sym (ends .0) ∙ f, e)
+        (λ i. (
+          record {
+            number = 0;
+            place = 0;
+            iterations = count;
+            weight = w i .0;
+            bound = boundOf count (w i .0);
+            walked = ends .1 f i .0;
+          },
+          bytes i,
+        ))
 
-pub short : (body : Body) (side : Side) (n : ℕ) → body .count ≡ n → (budget : ℕ) (lent : List ℕ) (count : ℕ) → length lent < n → refused lent 42 n ≡ walkOutcome body side budget lent count
-short body side n size budget lent count l = ap (refused lent 42) (sym size) ∙ rw (lt-ltb (length lent) (body .count) (omega arith))
+pub short : (body : Body) (side : Side) (n : ℕ) → body .count ≡ n → (budget : ℕ) (lent : List ℕ) (count : ℕ)
+    → length lent < n → refused lent 42 n ≡ walkOutcome body side budget lent count
+short body side n size budget lent count l = ap (refused lent 42) (sym size)
+    ∙ rw (lt-ltb (length lent) (body .count) (omega arith))
 
 -- no route weighs more than all blocks may
-pub weight-few : (prefers : ℕ → ℕ → Bool) (plan : List ℕ) (count budget : ℕ) (found : List ℕ) → PlanOf plan count → Searched prefers plan count budget found → walkedIn found ≤ budget
+pub weight-few : (prefers : ℕ → ℕ → Bool) (plan : List ℕ) (count budget : ℕ) (found : List ℕ) → PlanOf plan count
+    → Searched prefers plan count budget (foundIn found) → getD found 0 0 ≤ budget
     → getD found 1 0 ≡ 1 → getD found 2 0 ≤ costLimit
 weight-few prefers plan count budget found p s l a =
-    let (v, e, w) = one-found (p .body) (record { prefers = prefers; cost = p .cost }) budget found (s (p .body) (p .cost) (p .planned) (p .sound) (p .size)) (le-ltb budget (walkedIn found) l) (eq-eqb (getD found 1 0) 1 a) in
+    let (v, e, w) = one-found (p .body) (record { prefers = prefers; cost = p .cost }) budget found
+    (s (p .body) (p .cost) (p .planned) (p .sound) (p .size)) (le-ltb budget (getD found 0 0) l)
+    (eq-eqb (getD found 1 0) 1 a) in
     let (leads, is) = best-leads (p .body) (p .cost) prefers v e in
-    let most = weight-most (p .body) (p .sound .onward) (p .cost) (p .range .most) (p .range .each) 0 (v .1) (p .sound .some) leads in
+    let most = weight-most (p .body) (p .sound .onward) (p .cost) (p .range .most) (p .range .each) 0 (v .1)
+    (p .sound .some) leads in
     omega (arith, ap (λ (u : Words). u .0) w, p .range .all)
 
 -- ---- with the start
 
-pub started : (form : List ℕ) (r : Prepared) → PreparedOf form r → r .number ≡ 0 → Start form (r .count) (r .iterations) (r .plan)
+pub started : (form : List ℕ) (r : Prepared) → PreparedOf form r → r .number ≡ 0
+    → Start form (r .count) (r .iterations) (r .plan)
 started form r (not-ready why numbered empty) z = absurd (numbered z)
 started form r (ready n s) z = s
 
-pub not-started : (form : List ℕ) (budget : ℕ) (lent : List ℕ) (r : Prepared) → PreparedOf form r → (r .number ≡ 0 → ⊥) → {x : WalkAnswer} → x ≡ Refused (r .number) (r .place)
+pub not-started : (form : List ℕ) (budget : ℕ) (lent : List ℕ) (r : Prepared) → PreparedOf form r → (r .number ≡ 0 → ⊥)
+    → {x : WalkAnswer} → x ≡ Refused (r .number) (r .place)
     → WalkOwed form budget lent (said x, lent)
 not-started form budget lent r (not-ready why numbered empty) d e =
     subst (λ (y : WalkAnswer). WalkOwed form budget lent (said y, lent)) (sym e)
-    (refusal-owed form (refused lent) (walkOutcome (bodyOf form) (dearest (bodyOf form)) budget lent) (r .number) (r .place) why)
+    (refusal-owed form (refused lent) (walkOutcome (bodyOf form) (dearest (bodyOf form)) budget lent) (r .number)
+    (r .place) why)
 not-started form budget lent r (ready n s) d e = absurd (d n)

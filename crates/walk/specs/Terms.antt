@@ -1,8 +1,8 @@
--- The terms of the full walk's contracts: what its words say in the theory's terms, and what each turn of the recursion does. Definitions only. Rests on theory's
--- Plan, Walk and Edges.
+-- The terms of the full walk's contracts: what its words say in the theory's terms, and what each turn of the recursion
+-- does. Definitions only. Rests on theory's Plan, Walk and Edges.
 use mathlib.Core.Path.{_≡_}
 use mathlib.Core.Bool.{Bool, true, false, not, cond, _||_, _&&_}
-use mathlib.Core.List.{List}
+use mathlib.Core.List.{List, [], _∷_}
 use mathlib.Core.Option.{Option, none, some}
 use Prim.Native.Nat.{ℕ, _^_, _<_, _≤_}
 use lib.Dec.{eqb, ltb}
@@ -19,7 +19,7 @@ use Rattle.theory.specs.SweepWords.{Words, wordsFound}
 use Rattle.theory.specs.WalkWords.{advance, finish}
 use Rattle.theory.specs.Range.{upTo}
 use Rattle.theory.specs.Plan.{targetAt, touchedAt, deniedAt, againstAt, costAt, IsWay, Planned, PlanOf}
-use Rattle.plan.specs.declared.Way.{Way}
+use Rattle.plan_words.specs.declared.Way.{Way}
 use Rattle.walk.specs.declared.Banned.{Banned}
 
 -- ---- where the walk stands
@@ -30,29 +30,35 @@ bannedAt at = (at .jumps, at .falls)
 abbrev pub carriedAt : Way → Words
 carriedAt way = (way .weight, (way .jumped, way .fallen))
 
--- ---- what is found so far, in five words: 0 the number of beginnings, 1 whether there is a route (1), 2 to 4 the route kept
+-- ---- what is found so far
 
-abbrev pub walkedIn : List ℕ → ℕ
-walkedIn found = getD found 0 0
-
+-- the route kept, in four words: 1 where there is one, and the way
 abbrev pub routeIn : List ℕ → Option Words
-routeIn found = cond (eqb (getD found 1 0) 1) (some (getD found 2 0, (getD found 3 0, getD found 4 0))) none
+routeIn best = cond (eqb (getD best 0 0) 1) (some (getD best 1 0, (getD best 2 0, getD best 3 0))) none
 
-abbrev pub soFar : List ℕ → ℕ × Option Words
-soFar found = (walkedIn found, routeIn found)
+-- the number of beginnings, and the route kept
+abbrev pub Found : Type 0
+Found = ℕ × List ℕ
+
+abbrev pub soFar : Found → ℕ × Option Words
+soFar found = (found .0, routeIn (found .1))
 
 -- over the budget, or the count and the route kept
-abbrev pub tallied : (budget : ℕ) → List ℕ → Option (ℕ × Option Words)
-tallied budget found = within budget (walkedIn found) (routeIn found)
+abbrev pub tallied : (budget : ℕ) → Found → Option (ℕ × Option Words)
+tallied budget found = within budget (found .0) (routeIn (found .1))
+
+-- both in five words
+abbrev pub foundIn : List ℕ → Found
+foundIn words = (getD words 0 0, getD words 1 0 ∷ getD words 2 0 ∷ getD words 3 0 ∷ getD words 4 0 ∷ [])
 
 -- ---- a turn
 
 -- block b is one of the plan's; the weight so far keeps to what the blocks below come to; the budget is not passed
-pub record Standing (plan : List ℕ) (count budget b weight : ℕ) (found : List ℕ) : Type 0 where
+pub record Standing (plan : List ℕ) (count budget b weight walked : ℕ) : Type 0 where
   pub of : PlanOf plan count
   pub inside : b < count
   pub small : weight ≤ upTo (of .range .most) b
-  pub counted : walkedIn found ≤ budget
+  pub counted : walked ≤ budget
   pub fits : budget < 4294967296
 
 -- only edges of tests are banned
@@ -62,7 +68,8 @@ pub record Barred (body : Body) (s : Key) : Type 0 where
 
 -- banned after the effects of block b
 abbrev pub Entered : List ℕ → (b : ℕ) → (s r : Key) → Type 0
-Entered plan b s r = (k side : ℕ) → IsWay side → has r (k, side) ≡ (has s (k, side) && not (bit (touchedAt plan b) k) || bit (deniedAt plan b side) k)
+Entered plan b s r = (k side : ℕ) → IsWay side
+    → has r (k, side) ≡ (has s (k, side) && not (bit (touchedAt plan b) k) || bit (deniedAt plan b side) k)
 
 -- banned after block b is left by a way
 pub record Barring (plan : List ℕ) (b way : ℕ) (s r : Key) : Type 0 where
@@ -76,23 +83,28 @@ isOpen target banned walked budget = (ltb target 64 && not banned) && not (ltb b
 
 module _ (prefers : ℕ → ℕ → Bool) where
   -- the theory's walk from block b
-  abbrev pub walkFrom : Body → (cost : ℕ → ℕ → ℕ) → (budget b : ℕ) → Key → Words → ℕ × Option Words → Option (ℕ × Option Words)
-  walkFrom body cost budget b s c a = walk (onMachine body cost) (advance cost) (tally prefers (finish cost) (body .count) budget) (body .count) b s c a
+  abbrev pub walkFrom : Body → (cost : ℕ → ℕ → ℕ) → (budget b : ℕ) → Key → Words → ℕ × Option Words
+      → Option (ℕ × Option Words)
+  walkFrom body cost budget b s c a = walk (onMachine body cost) (advance cost)
+      (tally prefers (finish cost) (body .count) budget) (body .count) b s c a
 
   -- what the recursion owes at block b: of whatever body and costs the plan is, the theory's walk
-  abbrev pub Walks : List ℕ → (count budget b : ℕ) → Key → Words → (found r : List ℕ) → Type 0
+  abbrev pub Walks : List ℕ → (count budget b : ℕ) → Key → Words → (found r : Found) → Type 0
   Walks plan count budget b s c found r =
       (body : Body) (cost : ℕ → ℕ → ℕ) → Planned body cost plan → Sound body → body .count ≡ count → Barred body s
       → tallied budget r ≡ walkFrom body cost budget b s c (soFar found)
 
   -- what a way of block b comes to, from what is banned in it and carried to it
-  pub data Took (plan : List ℕ) (count budget b way : ℕ) (here : Key) (c : Words) (found r : List ℕ) : Type 0 where
-    stays : isOpen (targetAt plan b way) (has here (b, way)) (walkedIn found) budget ≡ false → r ≡ found → Took plan count budget b way here c found r
-    goes : isOpen (targetAt plan b way) (has here (b, way)) (walkedIn found) budget ≡ true → (next : Key) → Barring plan b way here next → (on : Words) → on ≡ advance (costAt plan) (b, way) c
+  pub data Took (plan : List ℕ) (count budget b way : ℕ) (here : Key) (c : Words) (found r : Found) : Type 0 where
+    stays : isOpen (targetAt plan b way) (has here (b, way)) (found .0) budget ≡ false → r ≡ found
+        → Took plan count budget b way here c found r
+    goes : isOpen (targetAt plan b way) (has here (b, way)) (found .0) budget ≡ true → (next : Key)
+        → Barring plan b way here next → (on : Words) → on ≡ advance (costAt plan) (b, way) c
         → Walks plan count budget (targetAt plan b way) next on found r → Took plan count budget b way here c found r
 
-  -- from block 0 on: over the budget, or the number of conflict-free beginnings and the first route of the preferred weight in words
-  abbrev pub Searched : List ℕ → (count budget : ℕ) → List ℕ → Type 0
+  -- from block 0 on: over the budget, or the number of conflict-free beginnings and the first route of the preferred
+  -- weight in words
+  abbrev pub Searched : List ℕ → (count budget : ℕ) → Found → Type 0
   Searched plan count budget r =
       (body : Body) (cost : ℕ → ℕ → ℕ) → Planned body cost plan → Sound body → body .count ≡ count
       → tallied budget r ≡ within budget (walked body) (wordsFound body (bestRoute body cost prefers))

@@ -1,18 +1,21 @@
-// The full walk: by recursion from block to block, jump before fall; an edge that makes a conflict is not taken. It works on the plan of a body alone (theory's
-// Plan). What its words and turns mean is in specs/Terms.antt. What goes down the recursion is plain words, and what is found stands in lent words: so a step is
-// a few registers, and nothing is copied back.
+// The full walk: by recursion from block to block, jump before fall; an edge that makes a conflict is not taken. It
+// works on the plan of a body alone (theory's Plan). What its words and turns mean is in specs/Terms.antt. What goes
+// down the recursion is plain words, and the route kept stands in lent words: so a step is a few registers, and no
+// struct is copied down or back.
 ghost use mathlib.Core.Path.{_≡_};
 ghost use Prim.Native.Nat.{ℕ, _+_, _^_, _<_};
 ghost use Rattle.laws.specs.Terms.{bit, heavier};
 ghost use Rattle.form.specs.declared.Body.{Body};
 ghost use Rattle.form.specs.Conflict.{Sound};
-ghost use Rattle.theory.specs.Walk.{keepFirst, tally};
-ghost use Rattle.theory.specs.WalkWords.{advance, finish};
+ghost use Rattle.theory.specs.Walk.{keepFirst};
+ghost use Rattle.theory.specs.WalkWords.{advance};
 ghost use Rattle.theory.specs.Plan.{costAt, Planned, PlanOf};
-ghost use Rattle.walk.specs.Terms.{bannedAt, carriedAt, walkedIn, routeIn, soFar, tallied, Standing, Entered, Barring, Walks, isOpen, Searched};
+ghost use Rattle.walk.specs.Terms.{bannedAt, carriedAt, routeIn, foundIn, Standing, Entered, Barring, Walks};
+ghost use Rattle.walk.specs.Terms.{isOpen};
+ghost use Rattle.walk.specs.Terms.{Searched};
 ghost use Rattle.walk.specs.Answer.{said, walkOutcome, WalkOwed};
 ghost use Rattle.walk.specs.declared.WalkAnswer.the-variants.{Refused};
-use plan::Way;
+use plan_words::Way;
 
 // The banned edges: those by jump or go, those by fall.
 struct Banned {
@@ -25,15 +28,15 @@ fn enter(plan: &[u64; 1024], b: usize, at: Banned) -> Banned
     requires { ⌜ b < 64 ⌝ }
     ensures { λ r. ⌜ Entered (now (plan .entry)) b (bannedAt at) (bannedAt r) ⌝ }
 {
-    let touched = plan::word::touched(plan, b);
+    let touched = plan_words::touched(plan, b);
     Banned {
         jumps: words::either(
             words::less(at.jumps, touched),
-            plan::word::denied(plan, b, 1),
+            plan_words::denied(plan, b, 1),
         ),
         falls: words::either(
             words::less(at.falls, touched),
-            plan::word::denied(plan, b, 2),
+            plan_words::denied(plan, b, 2),
         ),
     }
 }
@@ -44,8 +47,8 @@ fn bar(plan: &[u64; 1024], b: usize, way: usize, at: Banned) -> Banned
     ensures { λ r. ⌜ Barring (now (plan .entry)) b way (bannedAt at) (bannedAt r) ⌝ }
 {
     Banned {
-        jumps: words::either(at.jumps, plan::word::against(plan, b, way, 1)),
-        falls: words::either(at.falls, plan::word::against(plan, b, way, 2)),
+        jumps: words::either(at.jumps, plan_words::against(plan, b, way, 1)),
+        falls: words::either(at.falls, plan_words::against(plan, b, way, 2)),
     }
 }
 
@@ -55,43 +58,34 @@ fn step(plan: &[u64; 1024], b: usize, way: usize, at: Way) -> Way
     ensures { λ r. ⌜ carriedAt r ≡ advance (costAt (now (plan .entry))) (b, way) (carriedAt at) ⌝ }
 {
     Way {
-        weight: at.weight + plan::word::cost(plan, b, way),
+        weight: at.weight + plan_words::cost(plan, b, way),
         jumped: words::put(at.jumped, b, way == 1),
         fallen: words::put(at.fallen, b, way == 2),
     }
 }
 
 // A whole route is kept where it is the first, or heavier than the one kept.
-fn keep(way: Way, found: &mut [u64; 5])
-    ensures { λ _. ⌜ (walkedIn (now (found .exit)) ≡ walkedIn (now (found .entry))) × (routeIn (now (found .exit)) ≡ keepFirst heavier (routeIn (now (found .entry))) (carriedAt way)) ⌝ }
+fn keep(way: Way, best: &mut [u64; 4])
+    ensures { λ _. ⌜ routeIn (now (best .exit)) ≡ keepFirst heavier (routeIn (now (best .entry))) (carriedAt way) ⌝ }
 {
-    if found[1] == 1 {
-        if way.weight <= found[2] {
+    if best[0] == 1 {
+        if way.weight <= best[1] {
             return;
         }
     }
-    *found = [found[0], 1, way.weight, way.jumped, way.fallen];
-}
-
-// One more beginning, that ends in block b; in the last block it is a route.
-fn visit(plan: &[u64; 1024], count: usize, b: usize, way: Way, found: &mut [u64; 5])
-    requires { ⌜ (b < 64) × ((way .weight + costAt (now plan) b 0 < 2 ^ 64) × (walkedIn (now found) + 1 < 2 ^ 64)) ⌝ }
-    ensures { λ _. ⌜ ((budget : ℕ) → tallied budget (now (found .exit)) ≡ tally heavier (finish (costAt (now (plan .entry)))) count budget (soFar (now (found .entry))) (b, carriedAt way)) ⌝ }
-{
-    *found = [found[0] + 1, found[1], found[2], found[3], found[4]];
-    if b + 1 == count {
-        keep(step(plan, b, 0, way), found);
-    }
+    *best = [1, way.weight, way.jumped, way.fallen];
 }
 
 // Whether block b may be left by a way: there is one, its edge is not banned, and the budget is not passed.
 fn open(target: u64, banned: u64, b: usize, walked: u64, budget: u64) -> bool
+    requires { ⌜ b < 64 ⌝ }
     ensures { λ r. ⌜ r ≡ isOpen target (bit banned b) walked budget ⌝ }
 {
-    ((target < 64) & !words::has(banned, b)) & !(budget < walked)
+    ((target < 64) & !((banned >> b) % 2 == 1)) & !(budget < walked)
 }
 
-// All that is found from block b on, where these edges are banned and the way so far is this.
+// All that is found from block b on, where these edges are banned, the way so far is this and so many beginnings are
+// walked: how many then; the first heaviest route, if there is any, is kept in the lent words.
 fn walk_from(
     plan: &[u64; 1024],
     count: usize,
@@ -102,10 +96,12 @@ fn walk_from(
     weight: u64,
     jumped: u64,
     fallen: u64,
-    found: &mut [u64; 5],
-)
-    requires { ⌜ Standing (now plan) count budget b weight (now found) ⌝ }
-    ensures { λ _. ⌜ Walks heavier (now (plan .entry)) count budget b (jumps, falls) (weight, (jumped, fallen)) (now (found .entry)) (now (found .exit)) ⌝ }
+    walked: u64,
+    best: &mut [u64; 4],
+) -> u64
+    requires { ⌜ Standing (now plan) count budget b weight walked ⌝ }
+    ensures { λ r. ⌜ Walks heavier (now (plan .entry)) count budget b (jumps, falls) (weight, (jumped, fallen))
+        (walked, now (best .entry)) (r, now (best .exit)) ⌝ }
 {
     let here = enter(plan, b, Banned { jumps, falls });
     let way = Way {
@@ -113,15 +109,16 @@ fn walk_from(
         jumped,
         fallen,
     };
-    visit(plan, count, b, way, found);
+    let mut seen = walked + 1;
     if b + 1 == count {
-        return;
+        keep(step(plan, b, 0, way), best);
+        return seen;
     }
-    let jump = plan::word::target(plan, b, 1);
-    if open(jump, here.jumps, b, found[0], budget) {
+    let jump = plan_words::target(plan, b, 1);
+    if open(jump, here.jumps, b, seen, budget) {
         let next = bar(plan, b, 1, here);
         let on = step(plan, b, 1, way);
-        walk_from(
+        seen = walk_from(
             plan,
             count,
             budget,
@@ -131,14 +128,15 @@ fn walk_from(
             on.weight,
             on.jumped,
             on.fallen,
-            found,
+            seen,
+            best,
         );
     }
-    let fall = plan::word::target(plan, b, 2);
-    if open(fall, here.falls, b, found[0], budget) {
+    let fall = plan_words::target(plan, b, 2);
+    if open(fall, here.falls, b, seen, budget) {
         let next = bar(plan, b, 2, here);
         let on = step(plan, b, 2, way);
-        walk_from(
+        return walk_from(
             plan,
             count,
             budget,
@@ -148,23 +146,29 @@ fn walk_from(
             on.weight,
             on.jumped,
             on.fallen,
-            found,
+            seen,
+            best,
         );
     }
+    seen
 }
 
-// All that is found from block 0 on.
+// All that is found from block 0 on: how many beginnings, and the words of the route.
 fn search(plan: &[u64; 1024], count: usize, budget: u64) -> [u64; 5]
     requires { ⌜ PlanOf (now plan) count × (budget < 4294967296) ⌝ }
-    ensures { λ r. ⌜ Searched heavier (now (plan .entry)) count budget r ⌝ }
+    ensures { λ r. ⌜ Searched heavier (now (plan .entry)) count budget (foundIn r) ⌝ }
 {
-    let mut found = [0; 5];
-    walk_from(plan, count, budget, 0, 0, 0, 0, 0, 0, &mut found);
-    found
+    let mut best = [0; 4];
+    let walked = walk_from(plan, count, budget, 0, 0, 0, 0, 0, 0, 0, &mut best);
+    let any = best[0];
+    let weight = best[1];
+    let jumped = best[2];
+    let fallen = best[3];
+    [walked, any, weight, jumped, fallen]
 }
 
-// The full walk's answer: the loop count, the weight of the first heaviest route, count times weight, and the number of conflict-free beginnings; or the
-// refusal's number and place.
+// The full walk's answer: the loop count, the weight of the first heaviest route, count times weight, and the number of
+// conflict-free beginnings; or the refusal's number and place.
 pub enum WalkAnswer {
     Walked {
         iterations: u64,
@@ -193,7 +197,9 @@ fn walk_planned(
     route: &mut [u8],
 ) -> WalkAnswer
     requires { ⌜ PlanOf (now plan) count × ((iterations < 4294967296) × (budget < 4294967296)) ⌝ }
-    ensures { λ r. ⌜ ((body : Body) (cost : ℕ → ℕ → ℕ) → Planned body cost (now (plan .entry)) → Sound body → body .count ≡ count → (said r, now (route .exit)) ≡ walkOutcome body (record { prefers = heavier; cost = cost }) budget (now (route .entry)) iterations) ⌝ }
+    ensures { λ r. ⌜ ((body : Body) (cost : ℕ → ℕ → ℕ) → Planned body cost (now (plan .entry)) → Sound body
+        → body .count ≡ count → (said r, now (route .exit)) ≡
+        walkOutcome body (record { prefers = heavier; cost = cost }) budget (now (route .entry)) iterations) ⌝ }
 {
     if route.len() < count {
         return refuse(42, count);
@@ -216,8 +222,8 @@ fn walk_planned(
     }
 }
 
-// The full walk, for any bytes: the loop count, the first heaviest conflict-free route with its bytes, count times weight, and walked; or a refusal, which changes
-// no lent byte.
+// The full walk, for any bytes: the loop count, the first heaviest conflict-free route with its bytes, count times
+// weight, and walked; or a refusal, which changes no lent byte.
 pub fn walk(form: &[u8], budget: u32, route: &mut [u8]) -> WalkAnswer
     ensures { λ r. ⌜ WalkOwed (now (form .entry)) budget (now (route .entry)) (said r, now (route .exit)) ⌝ }
 {

@@ -1,5 +1,6 @@
--- What follows from the full walk's promise: where it refuses nothing it is answered with the route (`walk-answered`), so no run costs more than the bound (`walk-sound`); for every input one
--- answer and one content of the lent bytes, refusals too (`one-walk`); and which refusals it gives (`walk-gives`). Rests on Answered and walk's Answer.
+-- What follows from the full walk's promise: where it refuses nothing it is answered with the route (`walk-answered`),
+-- so no run costs more than the bound (`walk-sound`); for every input one answer and one content of the lent bytes,
+-- refusals too (`one-walk`); and which refusals it gives (`walk-gives`). Rests on Answered and walk's Answer.
 use mathlib.Core.Path.{_≡_, refl, sym, ap, subst, _∙_}
 use mathlib.Core.Logic.{_⊎_, inl, inr}
 use mathlib.Core.Bool.{Bool, true, false, cond}
@@ -28,7 +29,8 @@ module _ (form : List ℕ) (budget : ℕ) (lent : List ℕ) where
 
   -- the tests: too few bytes, over the budget
   abbrev ended : (short over : Bool) → Option (ℕ × Path) → ℕ → Outcome
-  ended short over o k = cond short (refused lent 42 (body .count)) (cond over (refused lent 41 budget) (routed body lent k o))
+  ended short over o k =
+      cond short (refused lent 42 (body .count)) (cond over (refused lent 41 budget) (routed body lent k o))
 
   abbrev late : List ℕ
   late = 41 ∷ 42 ∷ 43 ∷ []
@@ -52,18 +54,22 @@ module _ (form : List ℕ) (budget : ℕ) (lent : List ℕ) where
     tells = λ n p. (refl, refl);
     with = walkOutcome body (dearest body) budget lent;
     late = late;
-    late-only = λ k. late-only (ltb (length lent) (body .count)) (ltb budget (walked body)) (routeOn body (dearest body)) k;
+    late-only =
+        λ k. late-only (ltb (length lent) (body .count)) (ltb budget (walked body)) (routeOn body (dearest body)) k;
     late-high = late-high;
   }
 
   -- 10 to 20, 41, 42 and 43, or none
-  pub walk-gives : (x : Outcome) → WalkOwed form budget lent x → ((10 ≤ x .0 .number) × (x .0 .number ≤ 20)) ⊎ Mem (x .0 .number) (0 ∷ 41 ∷ 42 ∷ 43 ∷ [])
+  pub walk-gives : (x : Outcome) → WalkOwed form budget lent x
+      → ((10 ≤ x .0 .number) × (x .0 .number ≤ 20)) ⊎ Mem (x .0 .number) (0 ∷ 41 ∷ 42 ∷ 43 ∷ [])
   walk-gives x o = gives form walkCall x o
 
   -- ---- with a route
 
-  with-route : (x : Outcome) (k : ℕ) → judge form ≡ Accepted → CountOf (body .counter) k → (short over : Bool) (o : Option (ℕ × Path)) → routeOn body (dearest body) ≡ o
-      → x ≡ ended short over o k → x .0 .number ≡ 0 → Answered dearest form lent (x .1) (x .0 .iterations) (x .0 .weight) (x .0 .bound)
+  with-route : (x : Outcome) (k : ℕ) → judge form ≡ Accepted → CountOf (body .counter) k
+      → (short over : Bool) (o : Option (ℕ × Path)) → routeOn body (dearest body) ≡ o
+      → x ≡ ended short over o k → x .0 .number ≡ 0
+      → Answered dearest form lent (x .1) (x .0 .iterations) (x .0 .weight) (x .0 .bound)
   with-route x k a c true over o q e z = let n = ap (λ (y : Outcome). y .0 .number) e in absurd (omega arith)
   with-route x k a c false true o q e z = let n = ap (λ (y : Outcome). y .0 .number) e in absurd (omega arith)
   with-route x k a c false false none q e z = let n = ap (λ (y : Outcome). y .0 .number) e in absurd (omega arith)
@@ -73,37 +79,49 @@ module _ (form : List ℕ) (budget : ℕ) (lent : List ℕ) where
     route = v;
     best = q;
     weight-is = ap (λ (y : Outcome). y .0 .weight) e;
-    bound-is = ap (λ (y : Outcome). y .0 .bound) e ∙ λ i. boundOf (sym (ap (λ (y : Outcome). y .0 .iterations) e) i) (sym (ap (λ (y : Outcome). y .0 .weight) e) i);
+    bound-is =
+        ap (λ (y : Outcome). y .0 .bound) e
+        ∙ λ i. boundOf (sym (ap (λ (y : Outcome). y .0 .iterations) e) i)
+        (sym (ap (λ (y : Outcome). y .0 .weight) e) i);
     bytes = ap (λ (y : Outcome). y .1) e;
   }
 
-  pub walk-answered : (x : Outcome) → WalkOwed form budget lent x → x .0 .number ≡ 0 → Answered dearest form lent (x .1) (x .0 .iterations) (x .0 .weight) (x .0 .bound)
+  pub walk-answered : (x : Outcome) → WalkOwed form budget lent x → x .0 .number ≡ 0
+      → Answered dearest form lent (x .1) (x .0 .iterations) (x .0 .weight) (x .0 .bound)
   walk-answered x o z =
       let c = no-refusal form walkCall x o z in
-      with-route x (c .count) (c .accepted) (c .is-count) (ltb (length lent) (body .count)) (ltb budget (walked body)) (routeOn body (dearest body)) refl (c .is) z
+      with-route x (c .count) (c .accepted) (c .is-count) (ltb (length lent) (body .count)) (ltb budget (walked body))
+      (routeOn body (dearest body)) refl (c .is) z
 
   -- no run of at most count iterations costs more than the bound
-  pub walk-sound : (iterations weight bound walked : ℕ) (held : List ℕ) → WalkOwed form budget lent (said (Walked iterations weight bound walked), held)
+  pub walk-sound : (iterations weight bound walked : ℕ) (held : List ℕ)
+      → WalkOwed form budget lent (said (Walked iterations weight bound walked), held)
       → {l : List (Path × ℕ)} → Run body l → length l ≤ iterations → runCost body (stepCost body) l ≤ bound
   walk-sound iterations weight bound walked held o r n =
-      answered-sound form lent held iterations weight bound (walk-answered (said (Walked iterations weight bound walked), held) o refl) r n
+      answered-sound form lent held iterations weight bound
+      (walk-answered (said (Walked iterations weight bound walked), held) o refl) r n
 
   -- ---- one answer
 
   -- a refusal's values are no route's: a count is at least 1
-  mixed : (iterations weight bound walked number place : ℕ) (held : List ℕ) → said (Walked iterations weight bound walked) ≡ refusal number place
+  mixed : (iterations weight bound walked number place : ℕ) (held : List ℕ)
+      → said (Walked iterations weight bound walked) ≡ refusal number place
       → WalkOwed form budget lent (refusal number place, held) → ⊥
   mixed iterations weight bound walked number place held e o =
       let a = walk-answered (refusal number place, held) o (sym (ap (λ (v : Values). v .number) e)) in
       omega (arith, a .counts .enough)
 
-  same-answer : (a b : WalkAnswer) (held kept : List ℕ) → said a ≡ said b → WalkOwed form budget lent (said a, held) → WalkOwed form budget lent (said b, kept) → a ≡ b
-  same-answer (Walked i w n k) (Walked j x m l) held kept e o p = λ t. Walked (e t .iterations) (e t .weight) (e t .bound) (e t .walked)
+  same-answer : (a b : WalkAnswer) (held kept : List ℕ) → said a ≡ said b → WalkOwed form budget lent (said a, held)
+      → WalkOwed form budget lent (said b, kept) → a ≡ b
+  same-answer (Walked i w n k) (Walked j x m l) held kept e o p =
+      λ t. Walked (e t .iterations) (e t .weight) (e t .bound) (e t .walked)
   same-answer (Walked i w n k) (Refused m q) held kept e o p = absurd (mixed i w n k m q kept e p)
   same-answer (Refused m q) (Walked i w n k) held kept e o p = absurd (mixed i w n k m q held (sym e) o)
   same-answer (Refused n p) (Refused m q) held kept e o f = λ t. Refused (e t .number) (e t .place)
 
-  pub one-walk : (a b : WalkAnswer) (held kept : List ℕ) → WalkOwed form budget lent (said a, held) → WalkOwed form budget lent (said b, kept) → (a ≡ b) × (held ≡ kept)
+  pub one-walk : (a b : WalkAnswer) (held kept : List ℕ) → WalkOwed form budget lent (said a, held)
+      → WalkOwed form budget lent (said b, kept) → (a ≡ b) × (held ≡ kept)
   one-walk a b held kept o p =
-      let e = owed-once form (refused lent) (walkOutcome body (dearest body) budget lent) (said a, held) (said b, kept) o p in
+      let e =
+      owed-once form (refused lent) (walkOutcome body (dearest body) budget lent) (said a, held) (said b, kept) o p in
       (same-answer a b held kept (ap (λ (x : Outcome). x .0) e) o p, ap (λ (x : Outcome). x .1) e)

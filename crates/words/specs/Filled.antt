@@ -1,14 +1,18 @@
--- Loops that fill a word bit by bit, upward or downward, and a list place by place: where the loop stands, its start, its turn and its end. Rests on Sets.
+-- Loops that fill a word bit by bit, upward or downward, and a list place by place: where the loop stands, its start,
+-- its turn and its end. Rests on Sets.
 use mathlib.Core.Path.{_≡_, refl, sym, ap, ap₂, _∙_, subst}
 use mathlib.Core.Logic.{_⊎_, inl, inr}
 use mathlib.Core.Bool.{Bool, true, false, not, _&&_, _||_, and-true, and-false, or-false, or-assoc}
 use mathlib.Core.List.{List, map}
-use Prim.Native.Nat.{ℕ, zero, suc, _+_, _-_, _^_, _≤_, _<_}
+use Prim.Native.Nat.{ℕ, zero, suc, _+_, _-_, _*_, _^_, _≤_, _<_}
 use native.Mathlib.Nat.{zero-add, pow-suc}
 use native.Mathlib.Numerals.{add-one}
 use native.Mathlib.Omega.{arith}
-use borrow.Author.Tests.{eqb-true, eqb-false, eq-eqb, ne-eqb, ltb-true, ltb-false, lt-ltb, le-ltb, le-leb, lt-leb, leb-true, leb-false}
+use borrow.Author.Tests.{eqb-true, eqb-false, eq-eqb, ne-eqb, ltb-true, ltb-false, lt-ltb, le-ltb, le-leb, lt-leb}
+use borrow.Author.Tests.{leb-true, leb-false}
 use lib.Dec.{eqb, ltb, leb}
+use mir.Syntax.{w64}
+use mir.Val.{Fits}
 use lib.ListN.{length, getD, set, length-set}
 use lib.Seq.{getD-set-same, getD-set-other, ext-getD}
 use Rattle.words.specs.Tabled.{tabled, rows}
@@ -24,7 +28,8 @@ module _ (f : ℕ → Bool) where
   pub upto-none : Upto 0 0
   upto-none j = bit-none j ∙ rw (le-ltb j 0 (omega arith))
 
-  pub upto-more : (i w v : ℕ) (t : Bool) → Upto i w → t ≡ f i → ((j : ℕ) → bit v j ≡ bit w j || (t && eqb j i)) → Upto (i + 1) v
+  pub upto-more : (i w v : ℕ) (t : Bool) → Upto i w → t ≡ f i → ((j : ℕ) → bit v j ≡ bit w j || (t && eqb j i))
+      → Upto (i + 1) v
   upto-more i w v t inv e new j = new j ∙ ap (λ b. b || (t && eqb j i)) (inv j) ∙ split (eqb j i) here there
     where
       here : eqb j i ≡ true → ((ltb j i && f j) || (t && eqb j i)) ≡ (ltb j (i + 1) && f j)
@@ -49,7 +54,8 @@ module _ (f : ℕ → Bool) where
   pub downto-none : (i : ℕ) → ((j : ℕ) → i ≤ j → f j ≡ false) → Downto i 0
   downto-none i none j = bit-none j ∙ split (leb i j) (λ l. rw l (sym (none j (leb-true i j l)))) (λ l. rw l)
 
-  pub downto-more : (i w v : ℕ) (t : Bool) → Downto (i + 1) w → t ≡ f i → ((j : ℕ) → bit v j ≡ bit w j || (t && eqb j i)) → Downto i v
+  pub downto-more : (i w v : ℕ) (t : Bool) → Downto (i + 1) w → t ≡ f i
+      → ((j : ℕ) → bit v j ≡ bit w j || (t && eqb j i)) → Downto i v
   downto-more i w v t inv e new j = new j ∙ ap (λ b. b || (t && eqb j i)) (inv j) ∙ split (eqb j i) here there
     where
       here : eqb j i ≡ true → ((leb (i + 1) j && f j) || (t && eqb j i)) ≡ (leb i j && f j)
@@ -73,7 +79,8 @@ any-last n f = rw (add-one n) (go n f)
   where
     go : (n : ℕ) (f : ℕ → Bool) → any (suc n) f ≡ (any n f || f n)
     go zero f = or-false (f 0)
-    go (suc n) f = ap (λ b. f 0 || b) (go n (λ i. f (suc i))) ∙ sym (or-assoc (f 0) (any n (λ i. f (suc i))) (f (suc n)))
+    go (suc n) f = ap (λ b. f 0 || b) (go n (λ i. f (suc i)))
+        ∙ sym (or-assoc (f 0) (any n (λ i. f (suc i))) (f (suc n)))
 
 -- a list of n places that tells what it should at those below i
 pub record Told {A : Type 0} (z : A) (P : ℕ → A → Type 0) (n i : ℕ) (l : List A) : Type 0 where
@@ -103,8 +110,40 @@ module _ {A : Type 0} (z : A) (P : ℕ → A → Type 0) (n : ℕ) where
   told-end i l h inv = record { size = inv .size; at = λ b k. inv .at b (omega arith) }
 
   -- what a list tells in other words
-  pub told-as : (Q : ℕ → A → Type 0) (l : List A) → Told z P n n l → ((b : ℕ) (x : A) → b < n → P b x → Q b x) → Told z Q n n l
+  pub told-as : (Q : ℕ → A → Type 0) (l : List A) → Told z P n n l → ((b : ℕ) (x : A) → b < n → P b x → Q b x)
+      → Told z Q n n l
   told-as Q l inv f = record { size = inv .size; at = λ b k. f b (getD l b z) k (inv .at b k) }
+
+-- ---- places of arrays: cited where the context is too large to look through
+
+pub in-room : {m n i : ℕ} → m ≡ n → i < n → i < m
+in-room size h = omega arith
+
+-- a place's distance in bytes fits a word
+pub fits-8 : {i : ℕ} → i < 256 → Fits w64 (i * 8)
+fits-8 h = omega arith
+
+pub fits-4 : {i : ℕ} → i < 256 → Fits w64 (i * 4)
+fits-4 h = omega arith
+
+pub below-256 : {i : ℕ} → i < 64 → i < 256
+below-256 h = omega arith
+
+pub fits-small : {n : ℕ} → n ≤ 256 → Fits w64 n
+fits-small h = omega arith
+
+pub fits-byte : {n : ℕ} → n < 256 → Fits w64 n
+fits-byte h = omega arith
+
+-- the next place, and what is left after it
+pub fits-next : {i : ℕ} → i < 256 → Fits w64 (i + 1)
+fits-next h = omega arith
+
+pub next-within : {n i : ℕ} → i < n → i + 1 ≤ n
+next-within h = omega arith
+
+pub less-left : (n : ℕ) {i : ℕ} → i < n → n - (i + 1) < n - i
+less-left n h = omega arith
 
 -- ---- a list that is told whole
 
@@ -136,7 +175,8 @@ module _ {A : Type 0} (f : ℕ → A) where
   tabled-at n i z h = from-at 0 n i z h ∙ ap f (zero-add i)
 
   pub told-tabled : (z : A) (n : ℕ) (l : List A) → Told z (λ b x. x ≡ f b) n n l → l ≡ tabled n f
-  told-tabled z n l t = ext-getD z l (tabled n f) (t .size ∙ sym (tabled-length n)) (λ i h. t .at i (omega (arith, t .size)) ∙ sym (tabled-at n i z (omega (arith, t .size))))
+  told-tabled z n l t = ext-getD z l (tabled n f) (t .size ∙ sym (tabled-length n))
+      (λ i h. t .at i (omega (arith, t .size)) ∙ sym (tabled-at n i z (omega (arith, t .size))))
 
 -- words with the same bits are equal
 n-lt-pow : (n : ℕ) → n < 2 ^ n
@@ -159,7 +199,12 @@ module _ (f : ℕ → ℕ → Bool) (none : (b k : ℕ) → 64 ≤ k → f b k �
 
   pub told-rows : (l : List ℕ) → Told 0 (λ b x. (k : ℕ) → bit x k ≡ f b k) 64 64 l → l ≡ rows f
   unfolding rows
-  told-rows l t = told-tabled (λ b. setOf 64 (f b)) 0 64 l (record { size = t .size; at = λ b h. same-bits (getD l b 0) (setOf 64 (f b)) (λ k. t .at b h k ∙ sym (set-bit b k)) })
+  told-rows l t = told-tabled (λ b. setOf 64 (f b)) 0 64 l
+      (record {
+        size = t .size;
+        at = λ b h. same-bits (getD l b 0) (setOf 64 (f b))
+            (λ k. t .at b h k ∙ sym (set-bit b k));
+      })
 
   -- what each bit of the rows is
   pub rows-bit : (b : ℕ) → b < 64 → (k : ℕ) → bit (getD (rows f) b 0) k ≡ f b k
@@ -176,4 +221,5 @@ set-bits g off k = set-bit (λ b. g) (λ b. off) 0 k
 
 -- a word with no bit past 63 is below 2 ^ 64
 pub bits-fit : (g : ℕ → Bool) → ((k : ℕ) → 64 ≤ k → g k ≡ false) → (w : ℕ) → ((k : ℕ) → bit w k ≡ g k) → w < 2 ^ 64
-bits-fit g off w is = subst (λ x. x < 2 ^ 64) (sym (same-bits w (setOf 64 g) (λ k. is k ∙ sym (set-bit (λ b. g) (λ b. off) 0 k)))) (setOf-lt 64 g)
+bits-fit g off w is = subst (λ x. x < 2 ^ 64)
+    (sym (same-bits w (setOf 64 g) (λ k. is k ∙ sym (set-bit (λ b. g) (λ b. off) 0 k)))) (setOf-lt 64 g)

@@ -1,5 +1,5 @@
-// Sets of small numbers as words of 64 bits, bit k for the number k: the operations that the crates above compute with. Each says what
-// every bit of its result is (`bit` of the laws), those past 63 included.
+// Sets of small numbers as words of 64 bits, bit k for the number k: the operations that the crates above compute
+// with. Each says what every bit of its result is (`bit` of the laws), those past 63 included.
 ghost use mathlib.Core.Path.{_≡_};
 ghost use mathlib.Core.Bool.{_&&_, _||_, not};
 ghost use Prim.Native.Nat.{ℕ, _<_};
@@ -57,6 +57,13 @@ pub fn less(a: u64, b: u64) -> u64
     ensures { λ r. ⌜ ((j : ℕ) → bit r j ≡ bit a j && not (bit b j)) ⌝ }
 {
     a & !b
+}
+
+// What is in a and not in b, and what is in c.
+pub fn renewed(a: u64, b: u64, c: u64) -> u64
+    ensures { λ r. ⌜ ((j : ℕ) → bit r j ≡ (bit a j && not (bit b j)) || bit c j) ⌝ }
+{
+    either(less(a, b), c)
 }
 
 // The least number in x; 0 where there is none.

@@ -1,11 +1,10 @@
-// The writer of the order form: a body laid out, judged as the reader would, and copied into lent bytes. What bytes a body is laid out as, and what is answered, is in form's
-// Form and Answer.
+// The writer of the order form: a body laid out, judged as the reader would, and copied into lent bytes. What bytes a
+// body is laid out as, and what is answered, is in form's Form and Answer.
 ghost use mathlib.Core.Path.{_≡_};
 ghost use mathlib.Core.Bool.{true};
 ghost use mathlib.Core.List.{_++_};
 ghost use Prim.Native.Nat.{_+_, _*_, _≤_};
 ghost use lib.ListN.{length, take, drop};
-ghost use lib.Seq.{paste};
 ghost use mir.Syntax.{w32};
 ghost use mir.Val.{ofZ};
 ghost use Rattle.form.specs.Form.{counterBytes, blockBytes, effectBytes, layEffects, lay, countsFit};
@@ -20,19 +19,6 @@ fn bits_of(z: i32) -> u32
     }
     let below = (-1 - z) as u32;
     4294967295 - below
-}
-
-// Bytes copied into `out` from `at` on; the place after them.
-fn copy_in(out: &mut [u8], at: usize, bytes: &[u8]) -> usize
-    requires { ⌜ at + length (now bytes) ≤ length (now out) ⌝ }
-    ensures { λ r. ⌜ (r ≡ at + length (now (bytes .entry))) × (now (out .exit) ≡ paste (now (out .entry)) at (now (bytes .entry)) (length (now (bytes .entry)))) ⌝ }
-{
-    let mut j = 0;
-    while j < bytes.len() {
-        out[at + j] = bytes[j];
-        j += 1;
-    }
-    at + j
 }
 
 fn counter_bytes(c: form::Counter) -> [u8; 17]
@@ -115,13 +101,14 @@ fn lay_effects(
     n: usize,
 ) -> usize
     requires { ⌜ (from + n ≤ 256) × (at + 10 * n ≤ length (now buf)) ⌝ }
-    ensures { λ r. ⌜ (r ≡ at + 10 * n) × (take r (now (buf .exit)) ≡ take at (now (buf .entry)) ++ layEffects (take n (drop from effects))) ⌝ }
+    ensures { λ r. ⌜ (r ≡ at + 10 * n) ×
+        (take r (now (buf .exit)) ≡ take at (now (buf .entry)) ++ layEffects (take n (drop from effects))) ⌝ }
 {
     let mut to = at;
     let mut j = 0;
     while j < n {
         let bytes = effect_bytes(effects[from + j]);
-        to = copy_in(buf, to, &bytes);
+        to = lent::put(buf, to, &bytes);
         j += 1;
     }
     to
@@ -162,10 +149,12 @@ fn lay_block(
     e: usize,
 ) -> usize
     requires { ⌜ (e + block .effects ≤ 256) × (at + (17 + 10 * block .effects) ≤ length (now buf)) ⌝ }
-    ensures { λ r. ⌜ (r ≡ at + (17 + 10 * block .effects)) × (take r (now (buf .exit)) ≡ take at (now (buf .entry)) ++ (blockBytes block ++ layEffects (take (block .effects) (drop e effects)))) ⌝ }
+    ensures { λ r. ⌜ (r ≡ at + (17 + 10 * block .effects)) ×
+        (take r (now (buf .exit)) ≡ take at (now (buf .entry)) ++
+        (blockBytes block ++ layEffects (take (block .effects) (drop e effects)))) ⌝ }
 {
     let bytes = block_bytes(block);
-    let after = copy_in(buf, at, &bytes);
+    let after = lent::put(buf, at, &bytes);
     let own = block.effects;
     lay_effects(buf, after, effects, e, own)
 }
@@ -180,7 +169,7 @@ fn lay(buf: &mut [u8], body: form::Body) -> usize
     let effects = body.effects;
     let counter = body.counter;
     let first = counter_bytes(counter);
-    let mut at = copy_in(buf, 0, &first);
+    let mut at = lent::put(buf, 0, &first);
     let mut k = 0;
     let mut e = 0;
     while k < count {
@@ -224,6 +213,6 @@ pub fn write(body: form::Body, out: &mut [u8]) -> form::Written
             place: n,
         };
     }
-    copy_in(out, 0, &buf[..n]);
+    lent::put(out, 0, &buf[..n]);
     form::Written::Bytes(n)
 }

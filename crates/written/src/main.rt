@@ -1,12 +1,13 @@
-// Asks the writer for the comparison: bodies on standard input, answers on standard output. The input is how many bodies come (4 bytes, little-endian as all numbers
-// here) and then each in 2,913 bytes, right or wrong:
+// Asks the writer for the comparison: bodies on standard input, answers on standard output. The input is how many
+// bodies come (4 bytes, little-endian as all numbers here) and then each in 2,913 bytes, right or wrong:
 //     0  how many bytes are lent (at most 4,096), 4 bytes
 //     4  counter: initial, step, limit, 4 bytes each; relation, 1
 //    17  count and total, 8 bytes each
-//    33  64 blocks, 21 bytes each: cost, constant, 4 bytes each; ending, jump, fall, variable, relation; number of effects, 8 bytes
-//  1377  256 effects, 6 bytes each: constant, 4 bytes; variable, how
-// A signed number is told with 2,147,483,648 added. The answer to each has 24 + 4,096 bytes: number, place and bytes written, 8 bytes each, and the lent bytes, each of
-// which was 165 before, followed by as many more that were not lent.
+//    33  64 blocks, 21 bytes each: cost, constant, 4 bytes each; ending, jump, fall, variable, relation, 1 each;
+//        number of effects, 8
+//  1377  256 effects, 6 bytes each: constant, 4 bytes; variable, how, 1 each
+// A signed number is told with 2,147,483,648 added. The answer to each has 24 + 4,096 bytes: number, place and bytes
+// written, 8 bytes each, and the lent bytes, each of which was 165 before, followed by as many more that were not lent.
 ghost use mathlib.Core.Path.{_≡_};
 ghost use Prim.Native.Nat.{_+_, _≤_};
 ghost use lib.ListN.{length};

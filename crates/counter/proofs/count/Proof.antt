@@ -12,26 +12,33 @@ use Rattle.counter.proofs.count.Tie as tie
 returns : tie.Need-returns
 returns c = no-relation (c .if1 .taken) refl
 
-passes-requires : tie.Need-passes-requires
-passes-requires c κs = search needs
-
-found : (c : tie.After-passes) → Found (Count (c .before .before .args .initial) (c .before .before .args .step) (c .before .before .args .relation) (c .before .before .args .limit)) (c .passes .result)
+found : (c : tie.After-passes)
+    → Found (Count (c .before .before .args .initial) (c .before .before .args .step)
+    (c .before .before .args .relation) (c .before .before .args .limit)) (c .passes .result)
 found c =
     let s = c .before .before in
     let P = Count (s .args .initial) (s .args .step) (s .args .relation) (s .args .limit) in
-    let e = c .passes .ensures ∙ (λ i. countOf (toZ-ofZ (s .fits .initial) i) (toZ-ofZ (s .fits .step) i) (s .args .relation) (toZ-ofZ (s .fits .limit) i)) in
-    subst (Found P) (sym e) (count-found (s .args .initial) (s .fits .initial) (s .args .relation) (s .args .limit) (s .args .step))
+    let e = c .passes .ensures ∙ (λ i. countOf (toZ-ofZ (s .fits .initial) i) (toZ-ofZ (s .fits .step) i)
+    (s .args .relation) (toZ-ofZ (s .fits .limit) i)) in
+    subst (Found P) (sym e) (count-found (s .args .initial) (s .fits .initial) (s .args .relation) (s .args .limit)
+    (s .args .step))
 
 returns-2 : tie.Need-returns-2
 returns-2 c =
     let s = c .before .before .before in
-    no-count (c .before .before .if1 .left) (found-none (Count (s .args .initial) (s .args .step) (s .args .relation) (s .args .limit)) (c .before .passes .result) (c .if2 .taken) (found (c .before))) refl
+    no-count (c .before .before .if1 .left)
+    (found-none (Count (s .args .initial) (s .args .step) (s .args .relation) (s .args .limit))
+    (c .before .passes .result) (c .if2 .taken) (found (c .before))) refl
 
 returns-3 : tie.Need-returns-3
 returns-3 c =
     let s = c .before .before .before in
     let k = c .before .passes .result in
-    counted (c .before .before .if1 .left) k (found-some (Count (s .args .initial) (s .args .step) (s .args .relation) (s .args .limit)) k (c .if2 .left) (found (c .before))) refl
+    counted (c .before .before .if1 .left) k
+    (found-some (Count (s .args .initial) (s .args .step) (s .args .relation) (s .args .limit)) k (c .if2 .left)
+    (found (c .before))) refl
 
 pub count-spec : {M : Type 1} → statement M
-count-spec = tie.close (tie.spec returns passes-requires returns-2 returns-3)
+count-spec =
+    tie.close
+    (tie.spec returns (λ c κs. search needs) returns-2 returns-3)

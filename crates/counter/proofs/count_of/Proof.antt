@@ -1,13 +1,11 @@
--- `counter::count_of` meets its contract. A field of a struct is read back from its bits, and the struct tells that each fits.
+-- `counter::count_of` meets its contract. A field of a struct is read back from its bits, and the struct tells that
+-- each fits.
 use borrow.Author.Needs.{needs}
 use mir.Facts.{toZ-ofZ}
 use mir.Syntax.{w32}
 use mir.Val.{SFits}
 use Rattle.counter.proofs.count_of.Statement.{statement}
 use Rattle.counter.proofs.count_of.Tie as tie
-
-count-requires : tie.Need-count-requires
-count-requires c κs = search needs
 
 returns : tie.Need-returns
 returns c =
@@ -19,4 +17,6 @@ returns c =
     rw (toZ-ofZ fi, toZ-ofZ fs, toZ-ofZ fl) at (c .count .ensures)
 
 pub count-of-spec : {M : Type 1} → statement M
-count-of-spec = tie.close (tie.spec count-requires returns)
+count-of-spec =
+    tie.close
+    (tie.spec (λ c κs. search needs) returns)

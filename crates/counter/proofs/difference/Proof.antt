@@ -9,16 +9,12 @@ use Rattle.laws.specs.Signed.{widened, diff-fits}
 use Rattle.counter.proofs.difference.Statement.{statement}
 use Rattle.counter.proofs.difference.Tie as tie
 
-wide-requires : tie.Need-wide-requires
-wide-requires c κs = search needs
-
-wide-requires-2 : tie.Need-wide-requires-2
-wide-requires-2 c κs = search needs
-
-is : (c : tie.After-wide2) → toZ w64 (ofZ w64 (c .before .wide .result)) -ℤ toZ w64 (ofZ w64 (c .wide2 .result)) ≡ c .before .before .args .a -ℤ c .before .before .args .b
+is : (c : tie.After-wide2) → toZ w64 (ofZ w64 (c .before .wide .result)) -ℤ toZ w64 (ofZ w64 (c .wide2 .result))
+    ≡ c .before .before .args .a -ℤ c .before .before .args .b
 is c =
     let s = c .before .before in
-    λ i. widened (s .fits .a) (c .before .wide .ok) (c .before .wide .ensures) i -ℤ widened (s .fits .b) (c .wide2 .ok) (c .wide2 .ensures) i
+    λ i. widened (s .fits .a) (c .before .wide .ok) (c .before .wide .ensures) i -ℤ widened (s .fits .b)
+    (c .wide2 .ok) (c .wide2 .ensures) i
 
 fits : (c : tie.After-wide2) → SFits w64 (c .before .before .args .a -ℤ c .before .before .args .b)
 fits c =
@@ -32,4 +28,6 @@ returns : tie.Need-returns
 returns c = toZ-ofZ (sub-result c) ∙ is c
 
 pub difference-spec : {M : Type 1} → statement M
-difference-spec = tie.close (tie.spec wide-requires wide-requires-2 sub-result returns)
+difference-spec =
+    tie.close
+    (tie.spec (λ c κs. search needs) (λ c κs. search needs) sub-result returns)

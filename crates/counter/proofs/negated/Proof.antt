@@ -1,4 +1,5 @@
--- `counter::negated` meets its contract. The machine takes the widened number from 0, and the difference fits, for the least i32 too.
+-- `counter::negated` meets its contract. The machine takes the widened number from 0, and the difference fits, for
+-- the least i32 too.
 use borrow.Author.Needs.{needs}
 use mathlib.Core.Path.{_≡_, _∙_, ap}
 use lib.IntN.{ℤ, pos, negℤ, _-ℤ_, +ℤ-idl}
@@ -8,9 +9,6 @@ use mir.Val.{toZ, ofZ}
 use Rattle.laws.specs.Signed.{widened, neg-fits}
 use Rattle.counter.proofs.negated.Statement.{statement}
 use Rattle.counter.proofs.negated.Tie as tie
-
-wide-requires : tie.Need-wide-requires
-wide-requires c κs = search needs
 
 is : (c : tie.After-wide) → pos 0 -ℤ toZ w64 (ofZ w64 (c .wide .result)) ≡ negℤ (c .before .args .x)
 is c =
@@ -24,4 +22,6 @@ returns : tie.Need-returns
 returns c = toZ-ofZ (sub-result c) ∙ is c
 
 pub negated-spec : {M : Type 1} → statement M
-negated-spec = tie.close (tie.spec wide-requires sub-result returns)
+negated-spec =
+    tie.close
+    (tie.spec (λ c κs. search needs) sub-result returns)

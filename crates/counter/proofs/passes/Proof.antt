@@ -14,19 +14,21 @@ use Rattle.counter.proofs.passes.Tie as tie
 upward-requires : tie.Need-upward-requires
 upward-requires c κs =
     let s = c .before in
-    rw (toZ-ofZ (s .fits .step)) (omega (arith, ltZ-true (pos 0) (s .args .step) (rw (toZ-ofZ (s .fits .step)) at (c .if1 .taken))))
+    rw (toZ-ofZ (s .fits .step)) (omega
+    (arith, ltZ-true (pos 0) (s .args .step) (rw (toZ-ofZ (s .fits .step)) at (c .if1 .taken))))
 
 downward-requires : tie.Need-downward-requires
 downward-requires c κs =
     let s = c .before .before in
-    rw (toZ-ofZ (s .fits .step)) (omega (arith, ltZ-true (s .args .step) (pos 0) (rw (toZ-ofZ (s .fits .step)) at (c .if2 .taken))))
-
-still-requires : tie.Need-still-requires
-still-requires c κs = search needs
+    rw (toZ-ofZ (s .fits .step)) (omega
+    (arith, ltZ-true (s .args .step) (pos 0) (rw (toZ-ofZ (s .fits .step)) at (c .if2 .taken))))
 
 -- what the callees were handed, read back
-back : (s : tie.Start) → countOf (toZ w32 (ofZ w32 (s .args .initial))) (toZ w32 (ofZ w32 (s .args .step))) (s .args .relation) (toZ w32 (ofZ w32 (s .args .limit))) ≡ countOf (s .args .initial) (s .args .step) (s .args .relation) (s .args .limit)
-back s i = countOf (toZ-ofZ (s .fits .initial) i) (toZ-ofZ (s .fits .step) i) (s .args .relation) (toZ-ofZ (s .fits .limit) i)
+back : (s : tie.Start) → countOf (toZ w32 (ofZ w32 (s .args .initial))) (toZ w32 (ofZ w32 (s .args .step)))
+    (s .args .relation) (toZ w32 (ofZ w32 (s .args .limit))) ≡ countOf (s .args .initial) (s .args .step)
+    (s .args .relation) (s .args .limit)
+back s i = countOf (toZ-ofZ (s .fits .initial) i) (toZ-ofZ (s .fits .step) i) (s .args .relation)
+    (toZ-ofZ (s .fits .limit) i)
 
 returns : tie.Need-returns
 returns c = c .upward .ensures ∙ back (c .before .before)
@@ -44,9 +46,10 @@ no-step c =
 returns-3 : tie.Need-returns-3
 returns-3 c =
     let s = c .before .before .before in
-    c .still .ensures ∙ ap (λ (z : ℤ). countOf (toZ w32 (ofZ w32 (s .args .initial))) z (s .args .relation) (toZ w32 (ofZ w32 (s .args .limit)))) (no-step (c .before)) ∙ back s
+    c .still .ensures ∙ ap (λ (z : ℤ). countOf (toZ w32 (ofZ w32 (s .args .initial))) z (s .args .relation)
+    (toZ w32 (ofZ w32 (s .args .limit)))) (no-step (c .before)) ∙ back s
 
 pub passes-spec : {M : Type 1} → statement M
 passes-spec =
     tie.close
-    (tie.spec upward-requires downward-requires still-requires returns returns-2 returns-3)
+    (tie.spec upward-requires downward-requires (λ c κs. search needs) returns returns-2 returns-3)

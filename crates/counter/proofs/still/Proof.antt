@@ -8,21 +8,14 @@ use Rattle.lower_laws.specs.Loops.{countOf}
 use Rattle.counter.proofs.still.Statement.{statement}
 use Rattle.counter.proofs.still.Tie as tie
 
-wide-requires : tie.Need-wide-requires
-wide-requires c κs = search needs
-
-wide-requires-2 : tie.Need-wide-requires-2
-wide-requires-2 c κs = search needs
-
-meets-requires : tie.Need-meets-requires
-meets-requires c κs = search needs
-
-met : (c : tie.After-meets) → c .meets .result ≡ meets (c .before .before .before .args .relation) (c .before .before .before .args .initial) (c .before .before .before .args .limit)
+met : (c : tie.After-meets) → c .meets .result ≡ meets (c .before .before .before .args .relation)
+    (c .before .before .before .args .initial) (c .before .before .before .args .limit)
 met c =
     let s = c .before .before .before in
     let from = c .before .before .wide in
     let to = c .before .wide2 in
-    c .meets .ensures ∙ (λ i. meets (s .args .relation) (widened (s .fits .initial) (from .ok) (from .ensures) i) (widened (s .fits .limit) (to .ok) (to .ensures) i))
+    c .meets .ensures ∙ (λ i. meets (s .args .relation) (widened (s .fits .initial) (from .ok) (from .ensures) i)
+    (widened (s .fits .limit) (to .ok) (to .ensures) i))
 
 returns : tie.Need-returns
 unfolding countOf
@@ -34,4 +27,5 @@ returns-2 c = ap (λ (t : Bool). cond t 0 1) (sym (c .if1 .left) ∙ met (c .bef
 
 pub still-spec : {M : Type 1} → statement M
 still-spec =
-    tie.close (tie.spec wide-requires wide-requires-2 meets-requires returns returns-2)
+    tie.close
+    (tie.spec (λ c κs. search needs) (λ c κs. search needs) (λ c κs. search needs) returns returns-2)

@@ -14,7 +14,7 @@ returns c =
     let start = c .before .before .before .before .before .before .before in
     let listed = c .before .before .before .conflicts in (
       c .of-listed .ensures ∙ ap listNumbers (listed .ensures .0),
-      listed .ensures .1
+      listed .ensures .1 .0
           ∙ ap (λ (r : Listed). heldAfter r (conflictBytes (bodyOf (start .args .bytes .now))) (start .args .out .now)) (listed .ensures .0),
     )
 

@@ -14,12 +14,12 @@ use Rattle.desk.proofs.somniaret_rewrite.Tie as tie
 
 -- what the reader gave: the verdict, and the body of an accepted form
 verdict-is : (c : tie.After-read) → c .read .result .verdict ≡ judge (c .before .before .before .args .bytes .now)
-verdict-is c = ap (λ (r : Reading). r .verdict) (c .read .ensures)
+verdict-is c = ap (λ (r : Reading). r .verdict) (c .read .ensures .0)
 
 body-is :
     (c : tie.After-read) → accepted (judge (c .before .before .before .args .bytes .now)) ≡ true
     → c .read .result .body ≡ bodyOf (c .before .before .before .args .bytes .now)
-body-is c e = ap (λ (r : Reading). r .body) (c .read .ensures) ∙ rw e
+body-is c e = ap (λ (r : Reading). r .body) (c .read .ensures .0) ∙ rw e
 
 returns : tie.Need-returns
 returns c =

@@ -1,4 +1,5 @@
--- `listing::all_entries` meets its contract. The loop's invariant: the entries of the blocks below s stand from the first byte on. The measure is what is left of the 64.
+-- `listing::all_entries` meets its contract. The loop's invariant: the entries of the blocks below s stand from the
+-- first byte on. The measure is what is left of the 64.
 use Prim.Native.Nat.{_-_, _≤_}
 use native.Mathlib.Omega.{arith}
 use Rattle.laws.specs.Terms.{each, range}
@@ -8,7 +9,8 @@ use Rattle.listing.proofs.all_entries.Statement.{statement}
 use Rattle.listing.proofs.all_entries.Tie as tie
 
 abbrev Inv-loop : tie.InvT-loop
-Inv-loop out₀ variable a1 j1 f1 a2 j2 f2 at₀ s₀ out at s = (s ≤ 64) × Laid out₀ 0 (each (range 0 s) (blockBytes variable a1 j1 f1 a2 j2 f2)) out at
+Inv-loop out₀ variable a1 j1 f1 a2 j2 f2 at₀ s₀ out at s = (s ≤ 64)
+    × Laid out₀ 0 (each (range 0 s) (blockBytes variable a1 j1 f1 a2 j2 f2)) out at
 
 abbrev μ-loop : tie.MeasureT-loop
 μ-loop out₀ variable a1 j1 f1 a2 j2 f2 at₀ s₀ out at s = 64 - s
@@ -16,52 +18,15 @@ abbrev μ-loop : tie.MeasureT-loop
 loop-holds : tie.Need-loop-holds Inv-loop μ-loop
 loop-holds c = (omega arith, laid-none _ _)
 
-shared-slice-read-v : tie.Need-shared-slice-read-v Inv-loop μ-loop
-shared-slice-read-v c = omega arith
-
-mul-edge-entries : tie.Need-mul-edge-entries Inv-loop μ-loop
-mul-edge-entries c = omega arith
-
-shared-slice-read-edge-entries : tie.Need-shared-slice-read-edge-entries Inv-loop μ-loop
-shared-slice-read-edge-entries c = omega arith
-
-mul-edge-entries-2 : tie.Need-mul-edge-entries-2 Inv-loop μ-loop
-mul-edge-entries-2 c = omega arith
-
-shared-slice-read-edge-entries-2 : tie.Need-shared-slice-read-edge-entries-2 Inv-loop μ-loop
-shared-slice-read-edge-entries-2 c = omega arith
-
-mul-edge-entries-3 : tie.Need-mul-edge-entries-3 Inv-loop μ-loop
-mul-edge-entries-3 c = omega arith
-
-shared-slice-read-edge-entries-3 : tie.Need-shared-slice-read-edge-entries-3 Inv-loop μ-loop
-shared-slice-read-edge-entries-3 c = omega arith
-
 edge-entries-requires : tie.Need-edge-entries-requires Inv-loop μ-loop
 edge-entries-requires c κs =
     let at = c .before .before .before .before .before .before in
     let start = at .before .before .before .before .before .before .before .before .before in
     let a = start .args in
-    let room = all-room (a .out .now) (a .variable .now) (a .a1 .now) (a .j1 .now) (a .f1 .now) (a .a2 .now) (a .j2 .now) (a .f2 .now) (at .loop .out) (at .loop .at) (at .loop .s) (at .loop .inv .1) (omega arith) (start .pre .1) in
+    let room = all-room (a .out .now) (a .variable .now) (a .a1 .now) (a .j1 .now) (a .f1 .now) (a .a2 .now)
+    (a .j2 .now) (a .f2 .now) (at .loop .out) (at .loop .at) (at .loop .s) (at .loop .inv .1) (omega arith)
+    (start .pre .1) in
     (omega arith, omega (arith, room))
-
-mul-edge-entries-4 : tie.Need-mul-edge-entries-4 Inv-loop μ-loop
-mul-edge-entries-4 c = omega arith
-
-shared-slice-read-edge-entries-4 : tie.Need-shared-slice-read-edge-entries-4 Inv-loop μ-loop
-shared-slice-read-edge-entries-4 c = omega arith
-
-mul-edge-entries-5 : tie.Need-mul-edge-entries-5 Inv-loop μ-loop
-mul-edge-entries-5 c = omega arith
-
-shared-slice-read-edge-entries-5 : tie.Need-shared-slice-read-edge-entries-5 Inv-loop μ-loop
-shared-slice-read-edge-entries-5 c = omega arith
-
-mul-edge-entries-6 : tie.Need-mul-edge-entries-6 Inv-loop μ-loop
-mul-edge-entries-6 c = omega arith
-
-shared-slice-read-edge-entries-6 : tie.Need-shared-slice-read-edge-entries-6 Inv-loop μ-loop
-shared-slice-read-edge-entries-6 c = omega arith
 
 edge-entries-requires-2 : tie.Need-edge-entries-requires-2 Inv-loop μ-loop
 edge-entries-requires-2 c κs =
@@ -69,14 +34,10 @@ edge-entries-requires-2 c κs =
     let start = at .before .before .before .before .before .before .before .before .before in
     let a = start .args in
     let first = c .before .before .before .before .before .before in
-    let room = all-room (a .out .now) (a .variable .now) (a .a1 .now) (a .j1 .now) (a .f1 .now) (a .a2 .now) (a .j2 .now) (a .f2 .now) (at .loop .out) (at .loop .at) (at .loop .s) (at .loop .inv .1) (omega arith) (start .pre .1) in
+    let room = all-room (a .out .now) (a .variable .now) (a .a1 .now) (a .j1 .now) (a .f1 .now) (a .a2 .now)
+    (a .j2 .now) (a .f2 .now) (at .loop .out) (at .loop .at) (at .loop .s) (at .loop .inv .1) (omega arith)
+    (start .pre .1) in
     (omega arith, omega (arith, room, first .edge-entries .ensures .0, first .edge-entries .kept .0))
-
-add-s : tie.Need-add-s Inv-loop μ-loop
-add-s c = omega arith
-
-loop-less : tie.Need-loop-less Inv-loop μ-loop
-loop-less c = omega arith
 
 loop-again : tie.Need-loop-again Inv-loop μ-loop
 loop-again c =
@@ -85,8 +46,10 @@ loop-again c =
     let first = c .before .before .before .before .before .before .before .before .before in
     let second = c .before .before in (
       omega arith,
-      all-next (a .out .now) (a .variable .now) (a .a1 .now) (a .j1 .now) (a .f1 .now) (a .a2 .now) (a .j2 .now) (a .f2 .now) (at .loop .out) (at .loop .at) (at .loop .s) (at .loop .inv .1) _ _ _ _
-          (first .edge-entries .ensures .0) (first .edge-entries .ensures .1) (second .edge-entries2 .ensures .0) (second .edge-entries2 .ensures .1),
+      all-next (a .out .now) (a .variable .now) (a .a1 .now) (a .j1 .now) (a .f1 .now) (a .a2 .now) (a .j2 .now)
+          (a .f2 .now) (at .loop .out) (at .loop .at) (at .loop .s) (at .loop .inv .1) _ _ _ _
+          (first .edge-entries .ensures .0) (first .edge-entries .ensures .1) (second .edge-entries2 .ensures .0)
+          (second .edge-entries2 .ensures .1),
     )
 
 same-length : tie.Need-same-length Inv-loop μ-loop
@@ -96,32 +59,13 @@ returns : tie.Need-returns Inv-loop μ-loop
 returns c =
     let at = c .before in
     let a = at .before .before .before .before .before .before .before .before .before .args in
-    all-done (a .out .now) (a .variable .now) (a .a1 .now) (a .j1 .now) (a .f1 .now) (a .a2 .now) (a .j2 .now) (a .f2 .now) (at .loop .out) (at .loop .at) (at .loop .s) (at .loop .inv .1) (omega arith)
+    all-done (a .out .now) (a .variable .now) (a .a1 .now) (a .j1 .now) (a .f1 .now) (a .a2 .now) (a .j2 .now)
+    (a .f2 .now) (at .loop .out) (at .loop .at) (at .loop .s) (at .loop .inv .1) (omega arith)
 
 pub all-entries-spec : {M : Type 1} → statement M
 all-entries-spec =
     tie.close
-    (tie.spec
-    Inv-loop
-    μ-loop
-    loop-holds
-    shared-slice-read-v
-    mul-edge-entries
-    shared-slice-read-edge-entries
-    mul-edge-entries-2
-    shared-slice-read-edge-entries-2
-    mul-edge-entries-3
-    shared-slice-read-edge-entries-3
-    edge-entries-requires
-    mul-edge-entries-4
-    shared-slice-read-edge-entries-4
-    mul-edge-entries-5
-    shared-slice-read-edge-entries-5
-    mul-edge-entries-6
-    shared-slice-read-edge-entries-6
-    edge-entries-requires-2
-    add-s
-    loop-less
-    loop-again
-    same-length
-    returns)
+    (tie.spec Inv-loop μ-loop loop-holds (λ c. omega arith) (λ c. omega arith) (λ c. omega arith) (λ c. omega arith)
+    (λ c. omega arith) (λ c. omega arith) (λ c. omega arith) edge-entries-requires (λ c. omega arith)
+    (λ c. omega arith) (λ c. omega arith) (λ c. omega arith) (λ c. omega arith) (λ c. omega arith)
+    edge-entries-requires-2 (λ c. omega arith) (λ c. omega arith) loop-again same-length returns)

@@ -7,22 +7,41 @@ use Rattle.listing.proofs.edge_entries.Tie as tie
 
 entries-requires : tie.Need-entries-requires
 entries-requires c κs =
-    let start = c .before .before in
-    (start .pre .0, omega (arith, start .pre .1, edge-length (start .args .assigned) (start .args .jump) (start .args .fall) (start .args .variable) (start .args .second) (start .args .outcome)))
+    let start = c .before .before in (
+      start .pre .0,
+      omega (
+        arith,
+        start .pre .1,
+        edge-length (start .args .assigned) (start .args .jump)
+            (start .args .fall) (start .args .variable) (start .args .second) (start .args .outcome),
+      ),
+    )
 
 entries-requires-2 : tie.Need-entries-requires-2
 entries-requires-2 c κs =
-    let start = c .before .before .before .before .before .before in
-    (start .pre .0, omega (arith, start .pre .1, edge-length (start .args .assigned) (start .args .jump) (start .args .fall) (start .args .variable) (start .args .second) (start .args .outcome), c .before .before .before .entries .ensures .0, c .before .before .before .entries .kept .0))
-
-same-length : tie.Need-same-length
-same-length c = search needs
+    let start = c .before .before .before .before .before .before in (
+      start .pre .0,
+      omega (
+        arith,
+        start .pre .1,
+        edge-length (start .args .assigned) (start .args .jump)
+            (start .args .fall) (start .args .variable) (start .args .second)
+            (start .args .outcome),
+        c .before .before .before .entries .ensures .0,
+        c .before .before .before .entries .kept .0,
+      ),
+    )
 
 returns : tie.Need-returns
 returns c =
     let start = c .before .before .before .before .before .before .before .before .before in
-    edge-done (start .args .assigned) (start .args .jump) (start .args .fall) (start .args .variable) (start .args .second) (start .args .outcome) (start .args .out .now) _ _ (start .args .at) _ _ (c .before .before .before .before .before .before .entries .ensures .0) (c .before .before .before .before .before .before .entries .ensures .1)
+    edge-done (start .args .assigned) (start .args .jump) (start .args .fall) (start .args .variable)
+    (start .args .second) (start .args .outcome) (start .args .out .now) _ _ (start .args .at) _ _
+    (c .before .before .before .before .before .before .entries .ensures .0)
+    (c .before .before .before .before .before .before .entries .ensures .1)
     (c .before .before .entries2 .ensures .0) (c .before .before .entries2 .ensures .1)
 
 pub edge-entries-spec : {M : Type 1} → statement M
-edge-entries-spec = tie.close (tie.spec entries-requires entries-requires-2 same-length returns)
+edge-entries-spec =
+    tie.close
+    (tie.spec entries-requires entries-requires-2 (λ c. search needs) returns)

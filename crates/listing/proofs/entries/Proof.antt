@@ -1,4 +1,5 @@
--- `listing::entries` meets its contract. The loop's invariant: the entries of the blocks below f stand from `start` on. The measure is what is left of the 64.
+-- `listing::entries` meets its contract. The loop's invariant: the entries of the blocks below f stand from `start`
+-- on. The measure is what is left of the 64.
 use Prim.Native.Nat.{_-_, _≤_}
 use native.Mathlib.Omega.{arith}
 use Rattle.laws.specs.Terms.{each, range}
@@ -18,18 +19,14 @@ abbrev μ-loop : tie.MeasureT-loop
 loop-holds : tie.Need-loop-holds Inv-loop μ-loop
 loop-holds c = (omega arith, laid-none _ _)
 
-has-requires : tie.Need-has-requires Inv-loop μ-loop
-has-requires c κs = search needs
-
-has-requires-2 : tie.Need-has-requires-2 Inv-loop μ-loop
-has-requires-2 c κs = search needs
-
 entry-requires : tie.Need-entry-requires Inv-loop μ-loop
 entry-requires c κs =
     let at = c .before .before .before .before in
     let start = at .before .before in
     let room =
-    turn-room (start .args .out .now) (start .args .start) (start .args .kind) (start .args .word) (start .args .third) (start .args .other) (start .args .another) (start .args .second) (start .args .outcome) (at .loop .out) (at .loop .at) (at .loop .f) _ _
+    turn-room (start .args .out .now) (start .args .start) (start .args .kind) (start .args .word)
+    (start .args .third) (start .args .other) (start .args .another) (start .args .second) (start .args .outcome)
+    (at .loop .out) (at .loop .at) (at .loop .f) _ _
     (c .before .before .has .ensures) (c .before .has2 .ensures) (at .loop .inv .1) (omega arith) (start .pre .1) in
     ((omega arith, start .pre .0), omega arith)
 
@@ -39,15 +36,12 @@ entry-requires-2 c κs =
     let start = at .before .before in
     let first = c .before .before .before in
     let room =
-    turn-room (start .args .out .now) (start .args .start) (start .args .kind) (start .args .word) (start .args .third) (start .args .other) (start .args .another) (start .args .second) (start .args .outcome) (at .loop .out) (at .loop .at) (at .loop .f) _ _
-    (c .before .before .before .before .before .before .has .ensures) (c .before .before .before .before .before .has2 .ensures) (at .loop .inv .1) (omega arith) (start .pre .1) in
+    turn-room (start .args .out .now) (start .args .start) (start .args .kind) (start .args .word)
+    (start .args .third) (start .args .other) (start .args .another) (start .args .second) (start .args .outcome)
+    (at .loop .out) (at .loop .at) (at .loop .f) _ _
+    (c .before .before .before .before .before .before .has .ensures)
+    (c .before .before .before .before .before .has2 .ensures) (at .loop .inv .1) (omega arith) (start .pre .1) in
     ((omega arith, start .pre .0), omega (arith, first .entry .ensures .0, first .entry .kept .0))
-
-add-f : tie.Need-add-f Inv-loop μ-loop
-add-f c = omega arith
-
-loop-less : tie.Need-loop-less Inv-loop μ-loop
-loop-less c = omega arith
 
 loop-again : tie.Need-loop-again Inv-loop μ-loop
 loop-again c =
@@ -56,8 +50,13 @@ loop-again c =
     let first = c .before .before .before .before .before .before in
     let second = c .before .before in (
       omega arith,
-      turn-next (start .args .out .now) (start .args .start) (start .args .kind) (start .args .word) (start .args .third) (start .args .other) (start .args .another) (start .args .second) (start .args .outcome) (at .loop .out) (at .loop .at) (at .loop .f) _ _
-          (c .before .before .before .before .before .before .before .before .before .has .ensures) (c .before .before .before .before .before .before .before .before .has2 .ensures) (at .loop .inv .1) _ _ _ _ (first .entry .ensures .0) (first .entry .ensures .1) (second .entry2 .ensures .0) (second .entry2 .ensures .1),
+      turn-next (start .args .out .now) (start .args .start) (start .args .kind) (start .args .word)
+          (start .args .third) (start .args .other) (start .args .another) (start .args .second)
+          (start .args .outcome) (at .loop .out) (at .loop .at) (at .loop .f) _ _
+          (c .before .before .before .before .before .before .before .before .before .has .ensures)
+          (c .before .before .before .before .before .before .before .before .has2 .ensures)
+          (at .loop .inv .1) _ _ _ _ (first .entry .ensures .0) (first .entry .ensures .1)
+          (second .entry2 .ensures .0) (second .entry2 .ensures .1),
     )
 
 same-length : tie.Need-same-length Inv-loop μ-loop
@@ -66,21 +65,12 @@ same-length c = laid-length _ _ _ _ _ (c .before .loop .inv .1)
 returns : tie.Need-returns Inv-loop μ-loop
 returns c =
     let start = c .before .before .before in
-    word-done (start .args .out .now) (start .args .start) (start .args .kind) (start .args .word) (start .args .third) (start .args .other) (start .args .another) (start .args .second) (start .args .outcome) (c .before .loop .out) (c .before .loop .at) (c .before .loop .f) (omega arith) (c .before .loop .inv .1)
+    word-done (start .args .out .now) (start .args .start) (start .args .kind) (start .args .word)
+    (start .args .third) (start .args .other) (start .args .another) (start .args .second) (start .args .outcome)
+    (c .before .loop .out) (c .before .loop .at) (c .before .loop .f) (omega arith) (c .before .loop .inv .1)
 
 pub entries-spec : {M : Type 1} → statement M
 entries-spec =
     tie.close
-    (tie.spec
-    Inv-loop
-    μ-loop
-    loop-holds
-    has-requires
-    has-requires-2
-    entry-requires
-    entry-requires-2
-    add-f
-    loop-less
-    loop-again
-    same-length
-    returns)
+    (tie.spec Inv-loop μ-loop loop-holds (λ c κs. search needs) (λ c κs. search needs) entry-requires entry-requires-2
+    (λ c. omega arith) (λ c. omega arith) loop-again same-length returns)

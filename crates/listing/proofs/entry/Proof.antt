@@ -14,69 +14,36 @@ returns c = let off = not-true (c .before .args .on) (c .if1 .taken) in rw off (
 slice-write-out : tie.Need-slice-write-out
 slice-write-out c = let room = rw (not-false (c .before .args .on) (c .if1 .left)) at (c .before .pre .1) in omega arith
 
-cast-out : tie.Need-cast-out
-cast-out c = search needs
-
-add-out : tie.Need-add-out
-add-out c = search needs
-
 slice-write-out-2 : tie.Need-slice-write-out-2
 slice-write-out-2 c =
     let room = rw (not-false (c .before .args .on) (c .if1 .left)) at (c .before .pre .1) in
     simp length-set (omega arith)
-
-add-out-2 : tie.Need-add-out-2
-add-out-2 c = search needs
 
 slice-write-out-3 : tie.Need-slice-write-out-3
 slice-write-out-3 c =
     let room = rw (not-false (c .before .args .on) (c .if1 .left)) at (c .before .pre .1) in
     simp length-set (omega arith)
 
-cast-out-2 : tie.Need-cast-out-2
-cast-out-2 c = search needs
-
-add-out-3 : tie.Need-add-out-3
-add-out-3 c = search needs
-
 slice-write-out-4 : tie.Need-slice-write-out-4
 slice-write-out-4 c =
     let room = rw (not-false (c .before .args .on) (c .if1 .left)) at (c .before .pre .1) in
     simp length-set (omega arith)
-
-add-out-4 : tie.Need-add-out-4
-add-out-4 c = search needs
 
 slice-write-out-5 : tie.Need-slice-write-out-5
 slice-write-out-5 c =
     let room = rw (not-false (c .before .args .on) (c .if1 .left)) at (c .before .pre .1) in
     simp length-set (omega arith)
 
-add-result : tie.Need-add-result
-add-result c = search needs
-
-same-length : tie.Need-same-length
-same-length c = search needs
-
 returns-2 : tie.Need-returns-2
-returns-2 c = let on = not-false (c .before .args .on) (c .if1 .left) in rw on (refl, five (c .before .args .out .now) (c .before .args .at) (c .before .args .kind) (c .before .args .first) (c .before .args .third) (c .before .args .second) (c .before .args .outcome))
+returns-2 c = let on = not-false (c .before .args .on) (c .if1 .left) in rw on (
+  refl,
+  five (c .before .args .out .now) (c .before .args .at) (c .before .args .kind) (c .before .args .first)
+      (c .before .args .third) (c .before .args .second) (c .before .args .outcome),
+)
 
 pub entry-spec : {M : Type 1} → statement M
 entry-spec =
     tie.close
-    (tie.spec
-    returns
-    slice-write-out
-    cast-out
-    add-out
-    slice-write-out-2
-    add-out-2
-    slice-write-out-3
-    cast-out-2
-    add-out-3
-    slice-write-out-4
-    add-out-4
-    slice-write-out-5
-    add-result
-    same-length
-    returns-2)
+    (tie.spec returns slice-write-out (λ c. search needs) (λ c. search needs) slice-write-out-2 (λ c. search needs)
+    slice-write-out-3 (λ c. search needs) (λ c. search needs) slice-write-out-4 (λ c. search needs) slice-write-out-5
+    (λ c. search needs) (λ c. search needs) returns-2)

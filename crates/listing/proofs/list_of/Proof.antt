@@ -20,10 +20,8 @@ found-number-requires : tie.Need-found-number-requires
 found-number-requires c κs =
     let local = c .before in
     let start = local .before .before in
-    found-rows _ _ (found-told (start .args .body) (start .pre .few) _ (c .find .ensures (start .args .body) (start .pre) (local .local-of .ensures)))
-
-mul-bytes : tie.Need-mul-bytes
-mul-bytes c = search needs
+    found-rows _ _ (found-told (start .args .body) (start .pre .few) _
+    (c .find .ensures (start .args .body) (start .pre) (local .local-of .ensures)))
 
 returns : tie.Need-returns
 returns c =
@@ -31,8 +29,10 @@ returns c =
     let found = number .before in
     let local = found .before in
     let start = local .before .before in
-    let f = found-told (start .args .body) (start .pre .few) _ (found .find .ensures (start .args .body) (start .pre) (local .local-of .ensures)) in
-    let is = number .found-number .ensures .0 ∙ number-is (start .args .body) (start .pre .few) _ _ _ (f .variables) (f .jumped) (f .fallen) in
+    let f = found-told (start .args .body) (start .pre .few) _
+    (found .find .ensures (start .args .body) (start .pre) (local .local-of .ensures)) in
+    let is = number .found-number .ensures .0
+    ∙ number-is (start .args .body) (start .pre .few) _ _ _ (f .variables) (f .jumped) (f .fallen) in
     (too-few (start .args .body) _ _ is (c .if1 .taken), refl)
 
 found-entries-requires : tie.Need-found-entries-requires
@@ -41,15 +41,19 @@ found-entries-requires c κs =
     let found = number .before in
     let local = found .before in
     let start = local .before .before in
-    let f = found-told (start .args .body) (start .pre .few) _ (found .find .ensures (start .args .body) (start .pre) (local .local-of .ensures)) in
-    let is = number .found-number .ensures .0 ∙ number-is (start .args .body) (start .pre .few) _ _ _ (f .variables) (f .jumped) (f .fallen) in
+    let f = found-told (start .args .body) (start .pre .few) _
+    (found .find .ensures (start .args .body) (start .pre) (local .local-of .ensures)) in
+    let is = number .found-number .ensures .0
+    ∙ number-is (start .args .body) (start .pre .few) _ _ _ (f .variables) (f .jumped) (f .fallen) in
     let same = bytes-are (start .args .body) (start .pre .few) _ _ _ (f .variables) (f .jumped) (f .fallen) in (
       found-rows _ _ f,
-      omega (arith, ap length same, has-room (start .args .body) _ (length (start .args .out .now)) is (c .before .if1 .left)),
+      omega (
+        arith,
+        ap length same,
+        has-room (start .args .body) _ (length (start .args .out .now)) is
+            (c .before .if1 .left),
+      ),
     )
-
-same-length : tie.Need-same-length
-same-length c = search needs
 
 returns-2 : tie.Need-returns-2
 returns-2 c =
@@ -58,24 +62,21 @@ returns-2 c =
     let found = number .before in
     let local = found .before in
     let start = local .before .before in
-    let f = found-told (start .args .body) (start .pre .few) _ (found .find .ensures (start .args .body) (start .pre) (local .local-of .ensures)) in
+    let f = found-told (start .args .body) (start .pre .few) _
+    (found .find .ensures (start .args .body) (start .pre) (local .local-of .ensures)) in
     let body = start .args .body in
-    let is = number .found-number .ensures .0 ∙ number-is body (start .pre .few) _ _ _ (f .variables) (f .jumped) (f .fallen) in
+    let is = number .found-number .ensures .0
+    ∙ number-is body (start .pre .few) _ _ _ (f .variables) (f .jumped) (f .fallen) in
     let same = bytes-are body (start .pre .few) _ _ _ (f .variables) (f .jumped) (f .fallen) in
     let out = start .args .out .now in (
-      enough body _ _ is _ (wrote .before .before .if1 .left) (wrote .found-entries .ensures .0 ∙ ap (λ (l : List ℕ). 0 + length l) same),
-      wrote .found-entries .ensures .1 ∙ ap (λ (l : List ℕ). sets out 0 l) same ∙ from-start (conflictBytes body) out (has-room body _ (length out) is (wrote .before .before .if1 .left)),
+      enough body _ _ is _ (wrote .before .before .if1 .left)
+          (wrote .found-entries .ensures .0 ∙ ap (λ (l : List ℕ). 0 + length l) same),
+      wrote .found-entries .ensures .1 ∙ ap (λ (l : List ℕ). sets out 0 l) same
+          ∙ from-start (conflictBytes body) out (has-room body _ (length out) is (wrote .before .before .if1 .left)),
     )
 
 pub list-of-spec : {M : Type 1} → statement M
 list-of-spec =
     tie.close
-    (tie.spec
-    (λ c κs. search needs)
-    find-requires
-    found-number-requires
-    mul-bytes
-    returns
-    found-entries-requires
-    same-length
-    returns-2)
+    (tie.spec (λ c κs. search needs) find-requires found-number-requires (λ c. search needs) returns
+    found-entries-requires (λ c. search needs) returns-2)

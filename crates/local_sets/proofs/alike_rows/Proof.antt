@@ -1,4 +1,5 @@
--- `local_sets::alike_rows` meets its contract. The loop's invariant: the rows below b are right. The measure is what is left of the 64.
+-- `local_sets::alike_rows` meets its contract. The loop's invariant: the rows below b are right. The measure is what
+-- is left of the 64.
 use mathlib.Core.Path.{_≡_, refl, ap₂, _∙_}
 use mathlib.Core.Bool.{_&&_}
 use Prim.Native.Nat.{_-_, _≤_}
@@ -31,18 +32,6 @@ mul-only c = omega (arith, c .before .shared-slice-known2 .given (c .before .bef
 array-read-only : tie.Need-array-read-only Inv-loop μ-loop
 array-read-only c = c .before .shared-slice-known2 .given (c .before .before .before .loop .b) .fits
 
-mul-r : tie.Need-mul-r Inv-loop μ-loop
-mul-r c = omega arith
-
-array-write-r : tie.Need-array-write-r Inv-loop μ-loop
-array-write-r c = omega arith
-
-add-b : tie.Need-add-b Inv-loop μ-loop
-add-b c = omega arith
-
-loop-less : tie.Need-loop-less Inv-loop μ-loop
-loop-less c = omega arith
-
 loop-again : tie.Need-loop-again Inv-loop μ-loop
 loop-again c =
     let has = c .before in
@@ -51,7 +40,8 @@ loop-again c =
     let v = getD (at .before .before .before .args .variable .now) (at .loop .b) 0 in (
       omega arith,
       told-more _ _ _ _ _ _ (omega arith) (at .loop .inv .1)
-          (λ j. c .only .ensures j ∙ ap₂ _&&_ (has .has .ensures) (groups .at v (has .before .shared-slice-known2 .given (at .loop .b) .fits) j)),
+          (λ j. c .only .ensures j ∙ ap₂ _&&_ (has .has .ensures) (groups .at v
+          (has .before .shared-slice-known2 .given (at .loop .b) .fits) j)),
     )
 
 returns : tie.Need-returns Inv-loop μ-loop
@@ -60,4 +50,6 @@ returns c = told-end _ _ _ _ _ (c .loop-test .left) (c .before .loop .inv .1)
 pub alike-rows-spec : {M : Type 1} → statement M
 alike-rows-spec =
     tie.close
-    (tie.spec Inv-loop μ-loop (λ c κs. c .before .pre) loop-holds shared-slice-read-v cast-v (λ _ _. tt) mul-only array-read-only (λ _ _. tt) mul-r array-write-r add-b loop-less loop-again returns)
+    (tie.spec Inv-loop μ-loop (λ c κs. c .before .pre) loop-holds shared-slice-read-v cast-v (λ _ _. tt) mul-only
+    array-read-only (λ _ _. tt) (λ c. omega arith) (λ c. omega arith) (λ c. omega arith) (λ c. omega arith) loop-again
+    returns)

@@ -1,4 +1,5 @@
--- `local_sets::opposed_rows` meets its contract. The loop's invariant: the rows below b are right. The measure is what is left of the 64.
+-- `local_sets::opposed_rows` meets its contract. The loop's invariant: the rows below b are right. The measure is
+-- what is left of the 64.
 use mathlib.Core.Path.{refl}
 use Prim.Native.Nat.{_-_, _≤_}
 use native.Mathlib.Omega.{arith}
@@ -21,41 +22,15 @@ abbrev μ-loop : tie.MeasureT-loop
 loop-holds : tie.Need-loop-holds Inv-loop μ-loop
 loop-holds c = (omega arith, told-none _ _ _ _ refl)
 
-mul-value : tie.Need-mul-value Inv-loop μ-loop
-mul-value c = omega arith
-
-shared-slice-copy-out-value : tie.Need-shared-slice-copy-out-value Inv-loop μ-loop
-shared-slice-copy-out-value c = omega arith
-
-mul-opposed : tie.Need-mul-opposed Inv-loop μ-loop
-mul-opposed c = omega arith
-
-shared-slice-read-opposed : tie.Need-shared-slice-read-opposed Inv-loop μ-loop
-shared-slice-read-opposed c = omega arith
-
-shared-slice-read-opposed-2 : tie.Need-shared-slice-read-opposed-2 Inv-loop μ-loop
-shared-slice-read-opposed-2 c = omega arith
-
 opposed-requires : tie.Need-opposed-requires Inv-loop μ-loop
-opposed-requires c κs = (c .before .before .before .before .before .before .before .before .pre .1 .falls, c .before .before .before .before .before .before .before .before .pre .1 .constants)
-
-mul-r : tie.Need-mul-r Inv-loop μ-loop
-mul-r c = omega arith
-
-array-write-r : tie.Need-array-write-r Inv-loop μ-loop
-array-write-r c = omega arith
-
-add-b : tie.Need-add-b Inv-loop μ-loop
-add-b c = omega arith
-
-loop-less : tie.Need-loop-less Inv-loop μ-loop
-loop-less c = omega arith
+opposed-requires c κs = c .before .before .before .before .before .before .before .before .pre .1 .1
 
 loop-again : tie.Need-loop-again Inv-loop μ-loop
 loop-again c =
     let at = c .before .before .before .before .before in
     let a = at .before .before .before .before .args in
-    let value : SFits w32 (getD (a .constant .now) (at .loop .b) (pos 0)) = record { sfits = c .before .before .before .value .given } in (
+    let value : SFits w32 (getD (a .constant .now) (at .loop .b)
+    (pos 0)) = record { sfits = c .before .before .before .value .given } in (
       omega arith,
       told-more _ _ _ _ _ _ (omega arith) (at .loop .inv .1) (rw (toZ-ofZ value) at (c .opposed .ensures)),
     )
@@ -66,19 +41,6 @@ returns c = told-end _ _ _ _ _ (c .loop-test .left) (c .before .loop .inv .1)
 pub opposed-rows-spec : {M : Type 1} → statement M
 opposed-rows-spec =
     tie.close
-    (tie.spec
-    Inv-loop
-    μ-loop
-    loop-holds
-    mul-value
-    shared-slice-copy-out-value
-    mul-opposed
-    shared-slice-read-opposed
-    shared-slice-read-opposed-2
-    opposed-requires
-    mul-r
-    array-write-r
-    add-b
-    loop-less
-    loop-again
-    returns)
+    (tie.spec Inv-loop μ-loop loop-holds (λ c. omega arith) (λ c. omega arith) (λ c. omega arith) (λ c. omega arith)
+    (λ c. omega arith) opposed-requires (λ c. omega arith) (λ c. omega arith) (λ c. omega arith) (λ c. omega arith)
+    loop-again returns)

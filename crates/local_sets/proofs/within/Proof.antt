@@ -6,9 +6,6 @@ use borrow.Author.Needs.{needs}
 use Rattle.local_sets.proofs.within.Statement.{statement}
 use Rattle.local_sets.proofs.within.Tie as tie
 
-sub-left : tie.Need-sub-left
-sub-left c = search needs
-
 returns : tie.Need-returns
 returns c = record { few = omega arith; room = omega arith; all = inl refl }
 
@@ -16,4 +13,6 @@ returns-2 : tie.Need-returns-2
 returns-2 c = record { few = omega arith; room = omega arith; all = inr (omega arith) }
 
 pub within-spec : {M : Type 1} → statement M
-within-spec = tie.close (tie.spec sub-left returns returns-2)
+within-spec =
+    tie.close
+    (tie.spec (λ c. search needs) returns returns-2)

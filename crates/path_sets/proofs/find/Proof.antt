@@ -16,10 +16,14 @@ firsts-by-requires-2 c κs =
 
 returns : tie.Need-returns
 returns c =
-    let listed = c .before in
-    let two = listed .before in
+    let by-fall = c .before in
+    let by-jump = by-fall .before in
+    let two = by-jump .before in
     let one = two .before in
-    λ body sound is. found-is body sound _ _ _ (listed .listed-of .ensures) _ is (one .firsts-by .ensures) (two .firsts-by2 .ensures)
+    λ body sound is. found-is body sound _ _ _ (by-jump .listed-by .ensures) (by-fall .listed-by2 .ensures) _ is
+    (one .firsts-by .ensures) (two .firsts-by2 .ensures)
 
 pub find-spec : {M : Type 1} → statement M
-find-spec = tie.close (tie.spec firsts-by-requires firsts-by-requires-2 (λ c κs. search needs) returns)
+find-spec =
+    tie.close
+    (tie.spec firsts-by-requires firsts-by-requires-2 (λ c κs. search needs) (λ c κs. search needs) returns)

@@ -1,4 +1,5 @@
--- `path_sets::firsts_of` meets its contract. The loop's invariant: the rows below s are right. The measure is what is left of the 64.
+-- `path_sets::firsts_of` meets its contract. The loop's invariant: the rows below s are right. The measure is what is
+-- left of the 64.
 use mathlib.Core.Path.{refl, ap, _∙_}
 use mathlib.Core.Bool.{Bool, _&&_, and-false}
 use Prim.Native.Nat.{ℕ, _-_, _≤_}
@@ -27,43 +28,8 @@ loop-holds : tie.Need-loop-holds Inv-loop μ-loop
 loop-holds c = (omega arith, told-none _ _ _ _ refl, told-none _ _ _ _ refl, told-none _ _ _ _ refl)
 
 reach-if-requires : tie.Need-reach-if-requires Inv-loop μ-loop
-reach-if-requires c κs = let p = c .before .before .before .before .before .before .before .before .before .pre in (p .0, (p .1 .0, omega arith))
-
-mul-assigned : tie.Need-mul-assigned Inv-loop μ-loop
-mul-assigned c = omega arith
-
-array-write-assigned : tie.Need-array-write-assigned Inv-loop μ-loop
-array-write-assigned c = omega arith
-
-mul-both : tie.Need-mul-both Inv-loop μ-loop
-mul-both c = omega arith
-
-shared-slice-read-both : tie.Need-shared-slice-read-both Inv-loop μ-loop
-shared-slice-read-both c = omega arith
-
-mul-jumps : tie.Need-mul-jumps Inv-loop μ-loop
-mul-jumps c = omega arith
-
-array-write-jumps : tie.Need-array-write-jumps Inv-loop μ-loop
-array-write-jumps c = omega arith
-
-mul-both-2 : tie.Need-mul-both-2 Inv-loop μ-loop
-mul-both-2 c = omega arith
-
-shared-slice-read-both-2 : tie.Need-shared-slice-read-both-2 Inv-loop μ-loop
-shared-slice-read-both-2 c = omega arith
-
-mul-falls : tie.Need-mul-falls Inv-loop μ-loop
-mul-falls c = omega arith
-
-array-write-falls : tie.Need-array-write-falls Inv-loop μ-loop
-array-write-falls c = omega arith
-
-add-s : tie.Need-add-s Inv-loop μ-loop
-add-s c = omega arith
-
-loop-less : tie.Need-loop-less Inv-loop μ-loop
-loop-less c = omega arith
+reach-if-requires c κs = let p = c .before .before .before .before .before .before .before .before .before .pre in
+    (p .0, (p .1 .0, omega arith))
 
 loop-again : tie.Need-loop-again Inv-loop μ-loop
 loop-again c =
@@ -77,14 +43,23 @@ loop-again c =
     let jumping = getD (a .jumping .now) (at .loop .s) 0 in
     let falling = getD (a .falling .now) (at .loop .s) 0 in (
       omega arith,
-      told-more _ _ _ _ _ _ (omega arith) (at .loop .inv .1) (record { on = λ e. reach (said ∙ e) .assigned; off = λ e j. ap (λ (r : Reach). bit (r .assigned) j) (none (said ∙ e)) ∙ bit-none j }),
+      told-more _ _ _ _ _ _ (omega arith) (at .loop .inv .1)
+          (record {
+            on = λ e. reach (said ∙ e) .assigned;
+            off = λ e j. ap (λ (r : Reach). bit (r .assigned) j)
+                (none (said ∙ e)) ∙ bit-none j;
+          }),
       told-more _ _ _ _ _ _ (omega arith) (at .loop .inv .2) (record {
-        on = λ e P w j. c .before .before .both .ensures j ∙ ap (λ (b : Bool). bit jumping j && b) (reach (said ∙ e) .jumps P w j);
-        off = λ e j. c .before .before .both .ensures j ∙ ap (λ (r : Reach). bit jumping j && bit (r .jump) j) (none (said ∙ e)) ∙ ap (λ (b : Bool). bit jumping j && b) (bit-none j) ∙ and-false (bit jumping j);
+        on = λ e P w j. c .before .before .both .ensures j
+            ∙ ap (λ (b : Bool). bit jumping j && b) (reach (said ∙ e) .jumps P w j);
+        off = λ e j. c .before .before .both .ensures j
+            ∙ ap (λ (r : Reach). bit jumping j && bit (r .jump) j) (none (said ∙ e))
+            ∙ ap (λ (b : Bool). bit jumping j && b) (bit-none j) ∙ and-false (bit jumping j);
       }),
       told-more _ _ _ _ _ _ (omega arith) (at .loop .inv .3) (record {
         on = λ e P w j. c .both2 .ensures j ∙ ap (λ (b : Bool). bit falling j && b) (reach (said ∙ e) .falls P w j);
-        off = λ e j. c .both2 .ensures j ∙ ap (λ (r : Reach). bit falling j && bit (r .fall) j) (none (said ∙ e)) ∙ ap (λ (b : Bool). bit falling j && b) (bit-none j) ∙ and-false (bit falling j);
+        off = λ e j. c .both2 .ensures j ∙ ap (λ (r : Reach). bit falling j && bit (r .fall) j) (none (said ∙ e))
+            ∙ ap (λ (b : Bool). bit falling j && b) (bit-none j) ∙ and-false (bit falling j);
       }),
     )
 
@@ -100,25 +75,7 @@ returns c =
 pub firsts-of-spec : {M : Type 1} → statement M
 firsts-of-spec =
     tie.close
-    (tie.spec
-    Inv-loop
-    μ-loop
-    loop-holds
-    (λ _ _. tt)
-    reach-if-requires
-    mul-assigned
-    array-write-assigned
-    mul-both
-    shared-slice-read-both
-    (λ _ _. tt)
-    mul-jumps
-    array-write-jumps
-    mul-both-2
-    shared-slice-read-both-2
-    (λ _ _. tt)
-    mul-falls
-    array-write-falls
-    add-s
-    loop-less
-    loop-again
-    returns)
+    (tie.spec Inv-loop μ-loop loop-holds (λ _ _. tt) reach-if-requires (λ c. omega arith) (λ c. omega arith)
+    (λ c. omega arith) (λ c. omega arith) (λ _ _. tt) (λ c. omega arith) (λ c. omega arith) (λ c. omega arith)
+    (λ c. omega arith) (λ _ _. tt) (λ c. omega arith) (λ c. omega arith) (λ c. omega arith) (λ c. omega arith)
+    loop-again returns)

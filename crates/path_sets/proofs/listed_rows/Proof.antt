@@ -1,5 +1,5 @@
--- `path_sets::listed_rows` meets its contract. The loop's invariant: the rows below b are right, and the word has those with a first below b. The measure is
--- what is left of the 64.
+-- `path_sets::listed_rows` meets its contract. The loop's invariant: the rows below b are right, and the word has
+-- those with a first below b. The measure is what is left of the 64.
 use mathlib.Core.Path.{_≡_, refl, sym, ap, _∙_}
 use mathlib.Core.Bool.{Bool, _||_}
 use Prim.Native.Nat.{ℕ, _-_, _≤_}
@@ -22,31 +22,15 @@ abbrev μ-loop : tie.MeasureT-loop
 loop-holds : tie.Need-loop-holds Inv-loop μ-loop
 loop-holds c = (omega arith, told-none _ _ _ _ refl, bit-none)
 
-mul-r : tie.Need-mul-r Inv-loop μ-loop
-mul-r c = omega arith
-
-array-write-r : tie.Need-array-write-r Inv-loop μ-loop
-array-write-r c = omega arith
-
-mul-either : tie.Need-mul-either Inv-loop μ-loop
-mul-either c = omega arith
-
-array-read-either : tie.Need-array-read-either Inv-loop μ-loop
-array-read-either c = omega arith
-
-add-b : tie.Need-add-b Inv-loop μ-loop
-add-b c = omega arith
-
-loop-less : tie.Need-loop-less Inv-loop μ-loop
-loop-less c = omega arith
-
 loop-again : tie.Need-loop-again Inv-loop μ-loop
 loop-again c =
     let at = c .before .before in
     let lowest = at .before .lowest-firsts .ensures in (
       omega arith,
       told-more _ _ _ _ _ _ (omega arith) (at .loop .inv .1) (at .loop .inv .2),
-      λ j. c .either .ensures j ∙ ap (λ (t : Bool). t || bit (getD (at .before .lowest-firsts .result) (at .loop .b) 0) j) (at .loop .inv .2 j) ∙ sym (lowest .at (at .loop .b) (omega arith) j),
+      λ j. c .either .ensures j ∙ ap (λ (t : Bool). t || bit
+          (getD (at .before .lowest-firsts .result) (at .loop .b) 0) j) (at .loop .inv .2 j)
+          ∙ sym (lowest .at (at .loop .b) (omega arith) j),
     )
 
 returns : tie.Need-returns Inv-loop μ-loop
@@ -55,4 +39,5 @@ returns c = told-end _ _ _ _ _ (c .loop-test .left) (c .before .loop .inv .1)
 pub listed-rows-spec : {M : Type 1} → statement M
 listed-rows-spec =
     tie.close
-    (tie.spec Inv-loop μ-loop (λ c κs. c .before .pre) loop-holds mul-r array-write-r mul-either array-read-either (λ _ _. tt) add-b loop-less loop-again returns)
+    (tie.spec Inv-loop μ-loop (λ c κs. c .before .pre) loop-holds (λ c. omega arith) (λ c. omega arith)
+    (λ c. omega arith) (λ c. omega arith) (λ _ _. tt) (λ c. omega arith) (λ c. omega arith) loop-again returns)

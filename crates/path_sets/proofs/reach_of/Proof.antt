@@ -22,57 +22,6 @@ loop-holds c =
     let p = c .before .before .before .before .pre in
     (omega arith, reaching-none _ _ _ _ _ (p .0) (p .1 .1))
 
-sub-b : tie.Need-sub-b Inv-loop μ-loop
-sub-b c = omega arith
-
-mul-has : tie.Need-mul-has Inv-loop μ-loop
-mul-has c = omega arith
-
-shared-slice-read-has : tie.Need-shared-slice-read-has Inv-loop μ-loop
-shared-slice-read-has c = omega arith
-
-has-requires : tie.Need-has-requires Inv-loop μ-loop
-has-requires c κs = search needs
-
-mul-has-2 : tie.Need-mul-has-2 Inv-loop μ-loop
-mul-has-2 c = omega arith
-
-shared-slice-read-has-2 : tie.Need-shared-slice-read-has-2 Inv-loop μ-loop
-shared-slice-read-has-2 c = omega arith
-
-has-requires-2 : tie.Need-has-requires-2 Inv-loop μ-loop
-has-requires-2 c κs = search needs
-
-mul-has-3 : tie.Need-mul-has-3 Inv-loop μ-loop
-mul-has-3 c = omega arith
-
-shared-slice-read-has-3 : tie.Need-shared-slice-read-has-3 Inv-loop μ-loop
-shared-slice-read-has-3 c = omega arith
-
-has-requires-3 : tie.Need-has-requires-3 Inv-loop μ-loop
-has-requires-3 c κs = search needs
-
-mul-has-4 : tie.Need-mul-has-4 Inv-loop μ-loop
-mul-has-4 c = omega arith
-
-shared-slice-read-has-4 : tie.Need-shared-slice-read-has-4 Inv-loop μ-loop
-shared-slice-read-has-4 c = omega arith
-
-put-requires : tie.Need-put-requires Inv-loop μ-loop
-put-requires c κs = omega arith
-
-put-requires-2 : tie.Need-put-requires-2 Inv-loop μ-loop
-put-requires-2 c κs = omega arith
-
-put-requires-3 : tie.Need-put-requires-3 Inv-loop μ-loop
-put-requires-3 c κs = omega arith
-
-put-requires-4 : tie.Need-put-requires-4 Inv-loop μ-loop
-put-requires-4 c κs = omega arith
-
-loop-less : tie.Need-loop-less Inv-loop μ-loop
-loop-less c = omega arith
-
 loop-again : tie.Need-loop-again Inv-loop μ-loop
 loop-again c =
     let denied = c .before .before .before .before in
@@ -86,9 +35,13 @@ loop-again c =
     let b = at .loop .b - 1 in
     let down : at .loop .b ≡ b + 1 = omega arith in (
       omega arith,
-      reaching-more (a .jump .now) (a .fall .now) (a .touched .now) (a .denied .now) (a .s) (p .0) (p .1 .1) b _ _ _ _ _ _ _ _ _ _ _ _ (omega arith)
-          (subst (λ (i : ℕ). Reaching (a .jump .now) (a .fall .now) (a .touched .now) (a .denied .now) (a .s) i (at .loop .clean) (at .loop .by-jump) (at .loop .by-fall) (at .loop .assigned)) down (at .loop .inv .1))
-          (jump .has .ensures) (fall .has2 .ensures) (touched .has3 .ensures) (denied .has4 .ensures) (c .put4 .ensures) (c .before .before .before .put .ensures) (c .before .before .put2 .ensures) (c .before .put3 .ensures),
+      reaching-more (a .jump .now) (a .fall .now) (a .touched .now) (a .denied .now) (a .s) (p .0)
+          (p .1 .1) b _ _ _ _ _ _ _ _ _ _ _ _ (omega arith)
+          (subst (λ (i : ℕ). Reaching (a .jump .now) (a .fall .now) (a .touched .now) (a .denied .now) (a .s) i
+          (at .loop .clean) (at .loop .by-jump) (at .loop .by-fall) (at .loop .assigned)) down (at .loop .inv .1))
+          (jump .has .ensures) (fall .has2 .ensures) (touched .has3 .ensures) (denied .has4 .ensures)
+          (c .put4 .ensures) (c .before .before .before .put .ensures) (c .before .before .put2 .ensures)
+          (c .before .put3 .ensures),
     )
 
 returns : tie.Need-returns Inv-loop μ-loop
@@ -97,33 +50,13 @@ returns c =
     let a = at .before .before .before .before .before .args in
     let none : at .loop .b ≡ 0 = omega arith in
     reaching-end (a .jump .now) (a .fall .now) (a .touched .now) (a .denied .now) (a .s) _ _ _ _
-    (subst (λ (i : ℕ). Reaching (a .jump .now) (a .fall .now) (a .touched .now) (a .denied .now) (a .s) i (at .loop .clean) (at .loop .by-jump) (at .loop .by-fall) (at .loop .assigned)) none (at .loop .inv .1))
+    (subst (λ (i : ℕ). Reaching (a .jump .now) (a .fall .now) (a .touched .now) (a .denied .now) (a .s) i
+    (at .loop .clean) (at .loop .by-jump) (at .loop .by-fall) (at .loop .assigned)) none (at .loop .inv .1))
 
 pub reach-of-spec : {M : Type 1} → statement M
 reach-of-spec =
     tie.close
-    (tie.spec
-    Inv-loop
-    μ-loop
-    add-b
-    loop-holds
-    sub-b
-    mul-has
-    shared-slice-read-has
-    has-requires
-    mul-has-2
-    shared-slice-read-has-2
-    has-requires-2
-    mul-has-3
-    shared-slice-read-has-3
-    has-requires-3
-    mul-has-4
-    shared-slice-read-has-4
-    (λ _ _. tt)
-    put-requires
-    put-requires-2
-    put-requires-3
-    put-requires-4
-    loop-less
-    loop-again
-    returns)
+    (tie.spec Inv-loop μ-loop add-b loop-holds (λ c. omega arith) (λ c. omega arith) (λ c. omega arith)
+    (λ c κs. search needs) (λ c. omega arith) (λ c. omega arith) (λ c κs. search needs) (λ c. omega arith)
+    (λ c. omega arith) (λ c κs. search needs) (λ c. omega arith) (λ c. omega arith) (λ _ _. tt) (λ c κs. omega arith)
+    (λ c κs. omega arith) (λ c κs. omega arith) (λ c κs. omega arith) (λ c. omega arith) loop-again returns)

@@ -22,7 +22,8 @@ returns c =
     let constant = c .is-stray5 .ensures ∙ (λ i. stray 3 (k .ending) (zero i)) in
     λ i.
     (ltb 1000000 (k .cost) || (ltb 3 (k .ending) || (ltb 15 (k .variable) || ltb 5 (k .relation))))
-    || ((jump .is-stray .ensures i || fall .is-stray2 .ensures i) || (variable .is-stray3 .ensures i || (relation .is-stray4 .ensures i || constant i)))
+    || ((jump .is-stray .ensures i || fall .is-stray2 .ensures i) ||
+    (variable .is-stray3 .ensures i || (relation .is-stray4 .ensures i || constant i)))
 
 pub bad-block-spec : {M : Type 1} → statement M
 bad-block-spec = tie.close (tie.spec (λ _ _. tt) (λ _ _. tt) (λ _ _. tt) (λ _ _. tt) (λ _ _. tt) (λ _ _. tt) returns)

@@ -14,7 +14,8 @@ returns c =
     let unused = c .before .before in
     let told = unused .before .before in
     let e = told .before .args .e in
-    let zero = unused .before .is-zero .ensures ∙ ap (λ (z : ℤ). eqZ z (pos 0)) (held {r = e .constant} (told .struct-told .given .1 .1 .0 .1) refl) in
+    let zero = unused .before .is-zero .ensures
+    ∙ ap (λ (z : ℤ). eqZ z (pos 0)) (held {r = e .constant} (told .struct-told .given .1 .1 .0 .1) refl) in
     let constant = unused .is-stray .ensures ∙ (λ i. stray 1 (e .how) (zero i)) in
     λ i. ltb 15 (e .variable) || (ltb 1 (e .how) || constant i)
 

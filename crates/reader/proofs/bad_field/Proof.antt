@@ -17,9 +17,11 @@ returns c =
     let for-block = block .bad-block .ensures ∙ (λ i. badBlock (block .before .block-at .ensures i)) in
     let for-effect = c .bad-effect .ensures ∙ (λ i. badEffect (c .before .effect-at .ensures i)) in
     λ i.
-    (eqb (kind i .role) 1 && for-counter i) || ((eqb (kind i .role) 2 && for-block i) || (eqb (kind i .role) 3 && for-effect i))
+    (eqb (kind i .role) 1 && for-counter i) ||
+    ((eqb (kind i .role) 2 && for-block i) || (eqb (kind i .role) 3 && for-effect i))
 
 pub bad-field-spec : {M : Type 1} → statement M
 bad-field-spec =
     tie.close
-    (tie.spec (λ c κs. search needs) (λ c κs. search needs) (λ _ _. tt) (λ c κs. search needs) (λ _ _. tt) (λ c κs. search needs) (λ _ _. tt) returns)
+    (tie.spec (λ c κs. search needs) (λ c κs. search needs) (λ _ _. tt) (λ c κs. search needs) (λ _ _. tt)
+    (λ c κs. search needs) (λ _ _. tt) returns)

@@ -1,4 +1,4 @@
--- `form::block_at` meets its contract.
+-- `reader::block_at` meets its contract.
 use borrow.Author.Needs.{needs}
 use Rattle.laws.specs.Complement.{held}
 use Rattle.reader.proofs.block_at.Statement.{statement}
@@ -23,4 +23,6 @@ returns c =
 pub block-at-spec : {M : Type 1} → statement M
 block-at-spec =
     tie.close
-    (tie.spec (λ c. search needs) (λ c κs. search needs) (λ c. search needs) (λ _ _. tt) (λ c. search needs) (λ _ _. tt) (λ c. search needs) (λ _ _. tt) (λ c. search needs) (λ _ _. tt) (λ c. search needs) (λ _ _. tt) (λ c. search needs) (λ c κs. search needs) returns)
+    (tie.spec (λ c. search needs) (λ c κs. search needs) (λ c. search needs) (λ _ _. tt) (λ c. search needs) (λ _ _. tt)
+    (λ c. search needs) (λ _ _. tt) (λ c. search needs) (λ _ _. tt) (λ c. search needs) (λ _ _. tt) (λ c. search needs)
+    (λ c κs. search needs) returns)

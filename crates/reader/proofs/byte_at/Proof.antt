@@ -1,4 +1,4 @@
--- `form::byte_at` meets its contract: past the end a list has its default.
+-- `reader::byte_at` meets its contract: past the end a list has its default.
 use borrow.Author.Needs.{needs}
 use lib.ListN.{List·getD-eq-default}
 use mathlib.Core.Path.{sym}

@@ -1,4 +1,4 @@
--- `form::counter_at` meets its contract.
+-- `reader::counter_at` meets its contract.
 use borrow.Author.Needs.{needs}
 use Rattle.laws.specs.Complement.{held}
 use Rattle.reader.proofs.counter_at.Statement.{statement}
@@ -17,4 +17,5 @@ returns c =
 pub counter-at-spec : {M : Type 1} → statement M
 counter-at-spec =
     tie.close
-    (tie.spec (λ c. search needs) (λ c κs. search needs) (λ c. search needs) (λ c κs. search needs) (λ c. search needs) (λ _ _. tt) (λ c. search needs) (λ c κs. search needs) returns)
+    (tie.spec (λ c. search needs) (λ c κs. search needs) (λ c. search needs) (λ c κs. search needs) (λ c. search needs)
+    (λ _ _. tt) (λ c. search needs) (λ c κs. search needs) returns)

@@ -1,4 +1,4 @@
--- `form::effect_at` meets its contract.
+-- `reader::effect_at` meets its contract.
 use borrow.Author.Needs.{needs}
 use Rattle.laws.specs.Complement.{held}
 use Rattle.reader.proofs.effect_at.Statement.{statement}
@@ -15,4 +15,5 @@ returns c =
 pub effect-at-spec : {M : Type 1} → statement M
 effect-at-spec =
     tie.close
-    (tie.spec (λ c. search needs) (λ _ _. tt) (λ c. search needs) (λ _ _. tt) (λ c. search needs) (λ c κs. search needs) returns)
+    (tie.spec (λ c. search needs) (λ _ _. tt) (λ c. search needs) (λ _ _. tt) (λ c. search needs) (λ c κs. search needs)
+    returns)

@@ -23,4 +23,5 @@ returns c =
 pub end-fault-spec : {M : Type 1} → statement M
 end-fault-spec =
     tie.close
-    (tie.spec (λ c κs. search needs) (λ c κs. search needs) (λ c κs. search needs) (λ _ _. tt) (λ _ _. tt) (λ _ _. tt) returns)
+    (tie.spec (λ c κs. search needs) (λ c κs. search needs) (λ c κs. search needs) (λ _ _. tt) (λ _ _. tt) (λ _ _. tt)
+    returns)

@@ -1,5 +1,5 @@
--- `reader::judge` meets its contract. The loop's invariant: what is left to judge says what the whole does, and no more blocks and effects
--- are passed than bytes. The measure is what is left of the bytes.
+-- `reader::judge` meets its contract. The loop's invariant: what is left to judge says what the whole does, and no more
+-- blocks and effects are passed than bytes. The measure is what is left of the bytes.
 use mathlib.Core.Path.{_≡_, refl, ap, sym, _∙_}
 use Prim.Native.Nat.{ℕ, _+_, _≤_, _-_}
 use native.Mathlib.Omega.{arith}
@@ -12,7 +12,8 @@ use Rattle.reader.proofs.judge.Statement.{statement}
 use Rattle.reader.proofs.judge.Tie as tie
 
 abbrev Inv-loop : tie.InvT-loop
-Inv-loop s at₀ b₀ e₀ at b e = (judgeRecords s (recordsFrom s at) b e ≡ judge s) × ((b ≤ at) × ((b ≤ length s) × (e ≤ at)))
+Inv-loop s at₀ b₀ e₀ at b e = (judgeRecords s (recordsFrom s at) b e ≡ judge s) ×
+    ((b ≤ at) × ((b ≤ length s) × (e ≤ at)))
 
 abbrev μ-loop : tie.MeasureT-loop
 μ-loop s at₀ b₀ e₀ at b e = length s - at
@@ -25,7 +26,8 @@ returns : tie.Need-returns Inv-loop μ-loop
 returns c =
     let fault = c .before .record-fault .ensures in
     let left =
-    rest-leave _ _ (c .before .before .loop-test .taken) _ _ _ (λ z. c .if1 .taken (fault ∙ z)) (c .before .before .before .loop .inv .0) in
+    rest-leave _ _ (c .before .before .loop-test .taken) _ _ _ (λ z. c .if1 .taken (fault ∙ z))
+    (c .before .before .before .loop .inv .0) in
     judged-as _ _ (ap (λ (n : ℕ). Refused n (c .before .before .before .loop .at)) fault ∙ left)
 
 loop-again : tie.Need-loop-again Inv-loop μ-loop
@@ -53,9 +55,12 @@ returns-3 : tie.Need-returns-3 Inv-loop μ-loop
 returns-3 c =
     let loop = c .before .before .before .loop in
     let whole = rw (records-end _ _ (c .before .before .loop-test .left)) at (loop .inv .0) in
-    judged-as _ _ (c .judge-ends .ensures ∙ (sym (end-some _ _ (loop .e) (c .before .if2 .left) (loop .inv .1 .1 .0)) ∙ whole))
+    judged-as _ _ (c .judge-ends .ensures
+    ∙ (sym (end-some _ _ (loop .e) (c .before .if2 .left) (loop .inv .1 .1 .0)) ∙ whole))
 
 pub judge-spec : {M : Type 1} → statement M
 judge-spec =
     tie.close
-    (tie.spec Inv-loop μ-loop loop-holds (λ c κs. omega arith) returns (λ c κs. omega arith) (λ _ _. tt) (λ c. omega arith) (λ _ _. tt) (λ c. omega arith) (λ c. omega arith) (λ c. omega arith) (λ c. omega arith) loop-again returns-2 (λ _ _. tt) returns-3)
+    (tie.spec Inv-loop μ-loop loop-holds (λ c κs. omega arith) returns (λ c κs. omega arith) (λ _ _. tt)
+    (λ c. omega arith) (λ _ _. tt) (λ c. omega arith) (λ c. omega arith) (λ c. omega arith) (λ c. omega arith)
+    loop-again returns-2 (λ _ _. tt) returns-3)

@@ -1,5 +1,5 @@
--- `reader::judge_ends` meets its contract. The loop's invariant: what is left to judge says what the whole does, and no more blocks are
--- passed than bytes. The measure is what is left of the bytes.
+-- `reader::judge_ends` meets its contract. The loop's invariant: what is left to judge says what the whole does, and no
+-- more blocks are passed than bytes. The measure is what is left of the bytes.
 use mathlib.Core.Path.{_≡_, refl, sym, _∙_}
 use Prim.Native.Nat.{_≤_, _-_}
 use native.Mathlib.Omega.{arith}
@@ -19,7 +19,8 @@ returns : tie.Need-returns Inv-loop μ-loop
 returns c =
     let fault = c .before .end-fault .ensures in
     rw fault
-    (ends-leave _ _ (c .before .before .loop-test .taken) _ _ _ (λ z. c .if1 .taken (fault ∙ z)) (c .before .before .before .loop .inv .0))
+    (ends-leave _ _ (c .before .before .loop-test .taken) _ _ _ (λ z. c .if1 .taken (fault ∙ z))
+    (c .before .before .before .loop .inv .0))
 
 loop-again : tie.Need-loop-again Inv-loop μ-loop
 loop-again c =
@@ -38,4 +39,5 @@ returns-2 c = rw (records-end _ _ (c .loop-test .left)) at (c .before .loop .inv
 pub judge-ends-spec : {M : Type 1} → statement M
 judge-ends-spec =
     tie.close
-    (tie.spec Inv-loop μ-loop (λ c. (refl, omega arith)) (λ c κs. omega arith) returns (λ c κs. omega arith) (λ _ _. tt) (λ c. omega arith) (λ c. omega arith) (λ c. omega arith) (λ c. omega arith) loop-again returns-2)
+    (tie.spec Inv-loop μ-loop (λ c. (refl, omega arith)) (λ c κs. omega arith) returns (λ c κs. omega arith) (λ _ _. tt)
+    (λ c. omega arith) (λ c. omega arith) (λ c. omega arith) (λ c. omega arith) loop-again returns-2)

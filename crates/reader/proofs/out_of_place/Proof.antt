@@ -12,7 +12,8 @@ returns c =
     let kind = c .kind-at .ensures .0 in
     let args = c .before .before .args in
     λ i.
-    (eqb (args .at) 0 && not (eqb (kind i .role) 1)) || ((ltb 0 (args .at) && eqb (kind i .role) 1) || (eqb (kind i .role) 3 && eqb (args .b) 0))
+    (eqb (args .at) 0 && not (eqb (kind i .role) 1)) ||
+    ((ltb 0 (args .at) && eqb (kind i .role) 1) || (eqb (kind i .role) 3 && eqb (args .b) 0))
 
 pub out-of-place-spec : {M : Type 1} → statement M
 out-of-place-spec = tie.close (tie.spec (λ c κs. search needs) returns)

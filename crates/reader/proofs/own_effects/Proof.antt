@@ -1,6 +1,7 @@
--- `reader::own_effects` meets its contract. The loop's invariant: those counted and those left are all. The measure is what is left of the bytes.
+-- `reader::own_effects` meets its contract. The loop's invariant: those counted and those left are all. The measure is
+-- what is left of the bytes.
 use mathlib.Core.Path.{_≡_, ap, sym, _∙_}
-use Prim.Native.Nat.{ℕ, suc, _+_, _≤_, _-_}
+use Prim.Native.Nat.{_+_, _≤_, _-_}
 use native.Mathlib.Omega.{arith}
 use lib.ListN.{length}
 use Rattle.form.specs.declared.Kind.{Kind}
@@ -35,9 +36,11 @@ loop-again c =
     omega (arith, more, counted, read .kind-at .ensures .1)
 
 returns-2 : tie.Need-returns-2 Inv-loop μ-loop
-returns-2 c = omega (arith, own-end (c .before .before .before .args .s .now) (c .before .loop .at) (c .loop-test .left))
+returns-2 c =
+    omega (arith, own-end (c .before .before .before .args .s .now) (c .before .loop .at) (c .loop-test .left))
 
 pub own-effects-spec : {M : Type 1} → statement M
 own-effects-spec =
     tie.close
-    (tie.spec Inv-loop μ-loop (λ c. omega arith) (λ c κs. omega arith) returns (λ c. omega arith) (λ c. omega arith) (λ c. omega arith) (λ c. omega arith) loop-again returns-2)
+    (tie.spec Inv-loop μ-loop (λ c. omega arith) (λ c κs. omega arith) returns (λ c. omega arith) (λ c. omega arith)
+    (λ c. omega arith) (λ c. omega arith) loop-again returns-2)

@@ -1,4 +1,4 @@
--- `form::payload_fault` meets its contract.
+-- `reader::payload_fault` meets its contract.
 use mathlib.Core.Path.{_∙_}
 use borrow.Author.Needs.{needs}
 use Rattle.form.specs.Form.{when, payloadFault}
@@ -19,4 +19,5 @@ returns c =
 pub payload-fault-spec : {M : Type 1} → statement M
 payload-fault-spec =
     tie.close
-    (tie.spec (λ c κs. search needs) (λ _ _. tt) (λ c κs. search needs) (λ _ _. tt) (λ c κs. search needs) (λ _ _. tt) (λ c κs. search needs) (λ _ _. tt) returns)
+    (tie.spec (λ c κs. search needs) (λ _ _. tt) (λ c κs. search needs) (λ _ _. tt) (λ c κs. search needs) (λ _ _. tt)
+    (λ c κs. search needs) (λ _ _. tt) returns)

@@ -20,7 +20,8 @@ returns c =
     let size = payload .before .before .short-at .ensures .0 in
     let args = payload .before .before .before .before .args in
     let left = length (args .s .now) - args .at in
-    let for-beyond = beyond .refuse-if .ensures ∙ (λ i. when (ltb left (size i)) 10 (payload .payload-fault .ensures i)) in
+    let for-beyond = beyond .refuse-if .ensures
+    ∙ (λ i. when (ltb left (size i)) 10 (payload .payload-fault .ensures i)) in
     let for-wrong = wrong .refuse-if2 .ensures ∙ (λ i. when (not (eqb (size i) (kind i .length))) 11 (for-beyond i)) in
     let for-unknown = unknown .refuse-if3 .ensures ∙ (λ i. when (eqb (kind i .role) 0) 12 (for-wrong i)) in
     c .refuse-if4 .ensures ∙ (λ i. when (ltb left 4) 10 (for-unknown i))
@@ -28,4 +29,5 @@ returns c =
 pub record-fault-spec : {M : Type 1} → statement M
 record-fault-spec =
     tie.close
-    (tie.spec (λ c. search needs) (λ c κs. search needs) (λ c κs. search needs) (λ c. search needs) (λ c κs. search needs) (λ _ _. tt) (λ _ _. tt) (λ _ _. tt) (λ _ _. tt) returns)
+    (tie.spec (λ c. search needs) (λ c κs. search needs) (λ c κs. search needs) (λ c. search needs)
+    (λ c κs. search needs) (λ _ _. tt) (λ _ _. tt) (λ _ _. tt) (λ _ _. tt) returns)

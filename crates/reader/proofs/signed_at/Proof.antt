@@ -1,4 +1,4 @@
--- `form::signed_at` meets its contract.
+-- `reader::signed_at` meets its contract.
 use borrow.Author.Needs.{needs}
 use mathlib.Core.Path.{ap, _∙_}
 use mir.Syntax.{w32}

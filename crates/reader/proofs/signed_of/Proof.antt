@@ -1,13 +1,13 @@
--- `form::signed_of` meets its contract, by the two's complement of 32 bits.
-use mathlib.Core.Path.{_≡_, refl, ap, sym, _∙_}
-use Prim.Native.Nat.{ℕ, suc, _-_, _<_, _^_}
+-- `reader::signed_of` meets its contract, by the two's complement of 32 bits.
+use mathlib.Core.Path.{_≡_, ap}
+use Prim.Native.Nat.{ℕ, suc, _-_, _^_}
 use native.Mathlib.Omega.{arith}
 use borrow.Author.Needs.{needs}
 use borrow.Author.Tests.{le-ltb}
 use lib.IntN.{pos, negsuc, _-ℤ_}
 use mir.Facts.{toZ-ofZ}
 use mir.Syntax.{w32}
-use mir.Val.{ofZ, toZ, SFits}
+use mir.Val.{toZ, SFits}
 use Rattle.laws.specs.Complement.{minus-one-less}
 use Rattle.reader.proofs.signed_of.Statement.{statement}
 use Rattle.reader.proofs.signed_of.Tie as tie
@@ -30,4 +30,5 @@ returns-2 c =
     rw (turned c, toZ-ofZ (fits c), le-ltb _ _ (c .if1 .left)) (ap negsuc same)
 
 pub signed-of-spec : {M : Type 1} → statement M
-signed-of-spec = tie.close (tie.spec (λ c. search needs) (λ c. search needs) (λ c. search needs) (λ c. search needs) sub-result returns-2)
+signed-of-spec = tie.close (tie.spec (λ c. search needs) (λ c. search needs) (λ c. search needs) (λ c. search needs)
+    sub-result returns-2)

@@ -1,4 +1,4 @@
--- `form::zero_body` meets its contract.
+-- `reader::zero_body` meets its contract.
 use Rattle.form.specs.Form.{fill}
 use Rattle.reader.proofs.zero_body.Statement.{statement}
 use Rattle.reader.proofs.zero_body.Tie as tie

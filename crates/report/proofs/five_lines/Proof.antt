@@ -54,7 +54,7 @@ returns c =
     let first = second .before .before .before .before .before in
     let read = first .before .before .before .before in (
       λ a.
-          let blocks = rw (read-count _ a (read .read .result) (read .read .ensures)) at (first .line .ensures .0) in
+          let blocks = rw (read-count _ a (read .read .result) (read .read .ensures .0)) at (first .line .ensures .0) in
           let listed = rw (third .before .entries .ensures a) at (third .line3 .ensures .0) in
           then blocks (then (second .line2 .ensures .0) (then listed (then (fourth .line4 .ensures .0) (fifth .line5 .ensures .0)))),
       omega (

@@ -27,8 +27,10 @@ returns c =
     let start = c .before .before .before .before .before .before in
     let at = bannedAt (start .args .at) in
     record {
-      edges = by-sides at (c .before .before .before .either .result, c .either2 .result) (λ k side x. x || bit (againstAt (start .args .plan .now) (start .args .b) (start .args .way) side) k)
-          (λ k. c .before .before .before .either .ensures k ∙ ap (λ (w : ℕ). bit (at .0) k || bit w k) (c .before .before .before .before .against .ensures))
+      edges = by-sides at (c .before .before .before .either .result, c .either2 .result)
+          (λ k side x. x || bit (againstAt (start .args .plan .now) (start .args .b) (start .args .way) side) k)
+          (λ k. c .before .before .before .either .ensures k
+          ∙ ap (λ (w : ℕ). bit (at .0) k || bit w k) (c .before .before .before .before .against .ensures))
           (λ k. c .either2 .ensures k ∙ ap (λ (w : ℕ). bit (at .1) k || bit w k) (c .before .against2 .ensures));
       small-jumps = c .before .before .before .either .ok;
       small-falls = c .either2 .ok;

@@ -1,16 +1,16 @@
 -- `walk::open` meets its contract.
-use mathlib.Core.Path.{ap}
-use mathlib.Core.Bool.{Bool, _&&_, not}
-use lib.Dec.{ltb}
+use mathlib.Core.Path.{refl}
+use Rattle.laws.specs.Terms.{bit}
 use borrow.Author.Needs.{needs}
 use Rattle.walk.proofs.open.Statement.{statement}
 use Rattle.walk.proofs.open.Tie as tie
 
-has-requires : tie.Need-has-requires
-has-requires c κs = search needs
+shr-result : tie.Need-shr-result
+shr-result c = search needs
 
 returns : tie.Need-returns
-returns c = ap (λ (h : Bool). (ltb (c .before .args .target) 64 && not h) && not (ltb (c .before .args .budget) (c .before .args .walked))) (c .has .ensures)
+unfolding bit
+returns c = refl
 
 pub open-spec : {M : Type 1} → statement M
-open-spec = tie.close (tie.spec has-requires returns)
+open-spec = tie.close (tie.spec shr-result returns)

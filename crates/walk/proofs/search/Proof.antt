@@ -2,14 +2,42 @@
 use Rattle.laws.specs.Terms.{heavier}
 use Rattle.laws.specs.Orders.{heaviest}
 use Rattle.walk.specs.Laws.{standing-first, searched}
+use borrow.Author.Needs.{needs}
 use Rattle.walk.proofs.search.Statement.{statement}
 use Rattle.walk.proofs.search.Tie as tie
 
 walk-from-requires : tie.Need-walk-from-requires
-walk-from-requires c κs = standing-first (c .before .args .plan .now) (c .before .args .count) (c .before .args .budget) (c .before .pre .0) (c .before .pre .1)
+walk-from-requires c κs =
+    let a = c .before .args in
+    standing-first (a .plan .now) (a .count) (a .budget) (c .before .pre .0) (c .before .pre .1)
+
+array-read-any : tie.Need-array-read-any
+array-read-any c = search needs
+
+array-read-weight : tie.Need-array-read-weight
+array-read-weight c = search needs
+
+array-read-jumped : tie.Need-array-read-jumped
+array-read-jumped c = search needs
+
+array-read-fallen : tie.Need-array-read-fallen
+array-read-fallen c = search needs
 
 returns : tie.Need-returns
-returns c = searched heavier heaviest (c .before .before .args .plan .now) (c .before .before .args .count) (c .before .before .args .budget) (c .walk-from .last .1 .1 .1 .1 .1 .1 .1 .1 .1 .0) (c .walk-from .ensures)
+returns c =
+    let a = c .before .before .args in
+    let r = c .walk-from in
+    searched heavier heaviest (a .plan .now) (a .count) (a .budget)
+    (r .result, r .last .1 .1 .1 .1 .1 .1 .1 .1 .1 .1 .0)
+    (r .ensures)
 
 pub search-spec : {M : Type 1} → statement M
-search-spec = tie.close (tie.spec walk-from-requires returns)
+search-spec =
+    tie.close
+    (tie.spec
+    walk-from-requires
+    array-read-any
+    array-read-weight
+    array-read-jumped
+    array-read-fallen
+    returns)

@@ -27,8 +27,10 @@ returns c =
     λ i. (
       at .weight + c .before .before .before .cost .ensures i,
       (
-        put-is (at .jumped) (start .args .b) (c .before .put .result) (eqb (start .args .way) 1) (omega (arith, small)) (c .before .put .ok) (start .pre .0) (c .before .put .ensures) i,
-        put-is (at .fallen) (start .args .b) (c .put2 .result) (eqb (start .args .way) 2) (omega (arith, small)) (c .put2 .ok) (start .pre .0) (c .put2 .ensures) i,
+        put-is (at .jumped) (start .args .b) (c .before .put .result) (eqb (start .args .way) 1) (omega (arith, small))
+            (c .before .put .ok) (start .pre .0) (c .before .put .ensures) i,
+        put-is (at .fallen) (start .args .b) (c .put2 .result) (eqb (start .args .way) 2) (omega (arith, small))
+            (c .put2 .ok) (start .pre .0) (c .put2 .ensures) i,
       ),
     )
 

@@ -18,14 +18,20 @@ refuse-requires c κs = search needs
 returns : tie.Need-returns
 returns c =
     let a = c .before .before .before .before .before .before .args in
-    not-started (a .form .now) (a .budget) (a .route .now) (c .before .before .before .prepare .result) (c .before .before .before .prepare .ensures) (c .before .if1 .taken) (c .refuse .ensures)
+    not-started (a .form .now) (a .budget) (a .route .now) (c .before .before .before .prepare .result)
+    (c .before .before .before .prepare .ensures) (c .before .if1 .taken) (c .refuse .ensures)
 
 walk-planned-requires : tie.Need-walk-planned-requires
 walk-planned-requires c κs =
     let form = c .before .before .before .before .before .before .before .before .args .form .now in
     let ready = c .before .before .before .before .before .prepare in
-    let s = started form (ready .result) (ready .ensures) (c .before .before .before .if1 .left) in
-    (start-plan form _ _ _ s, (start-few form _ _ _ s, c .before .before .before .before .before .before .before .before .fits .budget .fits))
+    let s = started form (ready .result) (ready .ensures) (c .before .before .before .if1 .left) in (
+      start-plan form _ _ _ s,
+      (
+        start-few form _ _ _ s,
+        c .before .before .before .before .before .before .before .before .fits .budget .fits,
+      ),
+    )
 
 same-length : tie.Need-same-length
 same-length c = search needs
@@ -35,9 +41,12 @@ returns-2 c =
     let a = c .before .before .before .before .before .before .before .before .before .before .before .args in
     let form = a .form .now in
     let ready = c .before .before .before .before .before .before .before .before .prepare in
-    let s = started form (ready .result) (ready .ensures) (c .before .before .before .before .before .before .if1 .left) in
-    start-owed form _ _ _ s (refused (a .route .now)) (walkOutcome (bodyOf form) (dearest (bodyOf form)) (a .budget) (a .route .now)) _
-    (c .before .before .walk-planned .ensures (bodyOf form) (stepCost (bodyOf form)) (s .planned) (sound form (s .accepted)) (s .size))
+    let s = started form (ready .result) (ready .ensures)
+    (c .before .before .before .before .before .before .if1 .left) in
+    start-owed form _ _ _ s (refused (a .route .now))
+    (walkOutcome (bodyOf form) (dearest (bodyOf form)) (a .budget) (a .route .now)) _
+    (c .before .before .walk-planned .ensures (bodyOf form) (stepCost (bodyOf form)) (s .planned)
+    (sound form (s .accepted)) (s .size))
 
 pub walk-spec : {M : Type 1} → statement M
 walk-spec =

@@ -16,7 +16,9 @@ refuse-requires c κs = search needs
 returns : tie.Need-returns
 returns c body cost p g size =
     let a = c .before .before .before .args in
-    ap (λ (x : WalkAnswer). (said x, a .route .now)) (c .refuse .ensures) ∙ short body (record { prefers = heavier; cost = cost }) (a .count) size (a .budget) (a .route .now) (a .iterations) (c .before .if1 .taken)
+    ap (λ (x : WalkAnswer). (said x, a .route .now)) (c .refuse .ensures)
+    ∙ short body (record { prefers = heavier; cost = cost }) (a .count) size (a .budget) (a .route .now)
+    (a .iterations) (c .before .if1 .taken)
 
 search-requires : tie.Need-search-requires
 search-requires c κs = search needs
@@ -32,7 +34,9 @@ returns-2 c body cost p g size =
     let a = c .before .before .before .before .before .args in
     let found = c .before .before .search in
     ap (λ (x : WalkAnswer). (said x, a .route .now)) (c .refuse2 .ensures)
-    ∙ over-budget body (record { prefers = heavier; cost = cost }) (a .budget) (found .result) (found .ensures body cost p g size) (a .count) size (a .route .now) (c .before .before .before .if1 .left) (a .iterations) (c .before .if2 .taken)
+    ∙ over-budget body (record { prefers = heavier; cost = cost }) (a .budget) (found .result)
+    (found .ensures body cost p g size) (a .count) size (a .route .now) (c .before .before .before .if1 .left)
+    (a .iterations) (c .before .if2 .taken)
 
 array-read-if3 : tie.Need-array-read-if3
 array-read-if3 c = search needs
@@ -45,7 +49,9 @@ returns-3 c body cost p g size =
     let a = c .before .before .before .before .before .before .args in
     let found = c .before .before .before .search in
     ap (λ (x : WalkAnswer). (said x, a .route .now)) (c .refuse3 .ensures)
-    ∙ without-route body (record { prefers = heavier; cost = cost }) (a .budget) (found .result) (found .ensures body cost p g size) (a .count) size (a .route .now) (c .before .before .before .before .if1 .left) (a .iterations) (c .before .before .if2 .left) (c .before .if3 .taken)
+    ∙ without-route body (record { prefers = heavier; cost = cost }) (a .budget) (found .result)
+    (found .ensures body cost p g size) (a .count) size (a .route .now) (c .before .before .before .before .if1 .left)
+    (a .iterations) (c .before .before .if2 .left) (c .before .if3 .taken)
 
 array-read-weight : tie.Need-array-read-weight
 array-read-weight c = search needs
@@ -64,7 +70,9 @@ mul-t14 c =
     let start = c .before .before .before .before .before .before .before .before .before in
     let found = c .before .before .before .before .before .before .search in
     product (start .args .iterations) (getD (found .result) 2 0) (start .pre .1 .0)
-    (weight-few heavier (start .args .plan .now) (start .args .count) (start .args .budget) (found .result) (start .pre .0) (found .ensures) (c .before .before .before .before .before .if2 .left) (c .before .before .before .before .if3 .left))
+    (weight-few heavier (start .args .plan .now) (start .args .count) (start .args .budget) (found .result)
+    (start .pre .0) (found .ensures) (c .before .before .before .before .before .if2 .left)
+    (c .before .before .before .before .if3 .left))
 
 same-length : tie.Need-same-length
 same-length c = search needs
@@ -73,7 +81,11 @@ returns-4 : tie.Need-returns-4
 returns-4 c body cost p g size =
     let a = c .before .before .before .before .before .before .before .before .before .args in
     let found = c .before .before .before .before .before .before .search in
-    with-route body (record { prefers = heavier; cost = cost }) (a .budget) (found .result) (found .ensures body cost p g size) (a .count) size (a .route .now) (c .before .before .before .before .before .before .before .if1 .left) (a .iterations) g (c .before .before .before .before .before .if2 .left) (c .before .before .before .before .if3 .left) _ (c .before .before .write-route .ensures .1)
+    with-route body (record { prefers = heavier; cost = cost }) (a .budget) (found .result)
+    (found .ensures body cost p g size) (a .count) size (a .route .now)
+    (c .before .before .before .before .before .before .before .if1 .left) (a .iterations) g
+    (c .before .before .before .before .before .if2 .left) (c .before .before .before .before .if3 .left) _
+    (c .before .before .write-route .ensures .1)
 
 pub walk-planned-spec : {M : Type 1} → statement M
 walk-planned-spec =

@@ -6,9 +6,6 @@ use borrow.Author.Needs.{needs}
 use Rattle.words.proofs.has.Statement.{statement}
 use Rattle.words.proofs.has.Tie as tie
 
-shr-result : tie.Need-shr-result
-shr-result c = search needs
-
 returns : tie.Need-returns
 unfolding bit
 returns c = refl
@@ -17,4 +14,6 @@ returns-2 : tie.Need-returns-2
 returns-2 c = sym (bit-beyond 64 (c .before .args .k) (c .before .fits .x .fits) (c .if1 .left))
 
 pub has-spec : {M : Type 1} → statement M
-has-spec = tie.close (tie.spec shr-result returns returns-2)
+has-spec =
+    tie.close
+    (tie.spec (λ c. search needs) returns returns-2)

@@ -6,9 +6,6 @@ use borrow.Author.Needs.{needs}
 use Rattle.words.proofs.put.Statement.{statement}
 use Rattle.words.proofs.put.Tie as tie
 
-with-requires : tie.Need-with-requires
-with-requires c κs = search needs
-
 returns : tie.Need-returns
 returns c j = rw (c .before .if1 .taken) (c .with .ensures j)
 
@@ -16,4 +13,6 @@ returns-2 : tie.Need-returns-2
 returns-2 c j = rw (c .if1 .left) (sym (or-false (bit (c .before .args .x) j)))
 
 pub put-spec : {M : Type 1} → statement M
-put-spec = tie.close (tie.spec with-requires returns returns-2)
+put-spec =
+    tie.close
+    (tie.spec (λ c κs. search needs) returns returns-2)

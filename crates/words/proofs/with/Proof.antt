@@ -8,12 +8,12 @@ use borrow.Author.Needs.{needs}
 use Rattle.words.proofs.with.Statement.{statement}
 use Rattle.words.proofs.with.Tie as tie
 
-shl-result : tie.Need-shl-result
-shl-result c = search needs
-
 returns : tie.Need-returns
 returns c j =
-    ap (λ (z : ℕ). bit (bitOr (c .args .x) z) j) (shl-one 64 (c .args .k) (c .pre)) ∙ bit-with (c .args .x) (c .args .k) j
+    ap (λ (z : ℕ). bit (bitOr (c .args .x) z) j) (shl-one 64 (c .args .k) (c .pre))
+    ∙ bit-with (c .args .x) (c .args .k) j
 
 pub with-spec : {M : Type 1} → statement M
-with-spec = tie.close (tie.spec shl-result returns)
+with-spec =
+    tie.close
+    (tie.spec (λ c. search needs) returns)

@@ -27,7 +27,8 @@ sub-below : tie.Need-sub-below
 sub-below c = rw (toZ-ofZ (c .before .fits .z), below c .1) (record { sfits = below c .2 })
 
 turned : (c : tie.Else1) → toZ w32 (ofZ w32 (negsuc 0 -ℤ toZ w32 (ofZ w32 (c .before .args .z)))) ≡ pos (below c .0)
-turned c = rw (toZ-ofZ (c .before .fits .z), below c .1) (toZ-ofZ {w = w32} {z = pos (below c .0)} (record { sfits = below c .2 }))
+turned c = rw (toZ-ofZ (c .before .fits .z), below c .1)
+    (toZ-ofZ {w = w32} {z = pos (below c .0)} (record { sfits = below c .2 }))
 
 cast-below : tie.Need-cast-below
 cast-below c = rw (turned c) (tt, record { fits = omega (arith, below c .2) })

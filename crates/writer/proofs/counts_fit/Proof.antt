@@ -1,7 +1,7 @@
--- `writer::counts_fit` meets its contract. The loop's invariant: the blocks' own effects, with what is left of the total, are the total with the
--- own effects of the blocks to come. The measure is the blocks to come.
+-- `writer::counts_fit` meets its contract. The loop's invariant: the blocks' own effects, with what is left of the
+-- total, are the total with the own effects of the blocks to come. The measure is the blocks to come.
 use mathlib.Core.Path.{_≡_, sym, _∙_}
-use Prim.Native.Nat.{ℕ, suc, _+_, _≤_, _-_}
+use Prim.Native.Nat.{suc, _+_, _≤_, _-_}
 use native.Mathlib.Numerals.{add-one}
 use native.Mathlib.Omega.{arith}
 use borrow.Author.Tests.{ne-eqb}
@@ -25,15 +25,6 @@ returns c = over-blocks _ (c .if1 .taken)
 returns-2 : tie.Need-returns-2 Inv-loop μ-loop
 returns-2 c = over-effects _ (c .if2 .taken)
 
-loop-holds : tie.Need-loop-holds Inv-loop μ-loop
-loop-holds c = omega arith
-
-mul-own : tie.Need-mul-own Inv-loop μ-loop
-mul-own c = omega arith
-
-element-copy-out-own : tie.Need-element-copy-out-own Inv-loop μ-loop
-element-copy-out-own c = omega arith
-
 -- a turn's block in the sum of those to come
 turn :
     (c : tie.In-loop Inv-loop μ-loop) → let body = c .before .before .before .before .before .args .body in
@@ -53,12 +44,6 @@ returns-3 c =
     (within-counts _ (start .before .if1 .left) (start .if2 .left)
     ∙ ne-eqb (sumOwn (take (body .count) (body .blocks))) (body .total) (λ e. omega (arith, turn (c .before))))
 
-add-k : tie.Need-add-k Inv-loop μ-loop
-add-k c = omega arith
-
-loop-less : tie.Need-loop-less Inv-loop μ-loop
-loop-less c = omega arith
-
 loop-again : tie.Need-loop-again Inv-loop μ-loop
 loop-again c = rw (add-one (c .before .before .loop .k)) (omega (arith, turn (c .before)))
 
@@ -75,4 +60,5 @@ returns-4 c =
 pub counts-fit-spec : {M : Type 1} → statement M
 counts-fit-spec =
     tie.close
-    (tie.spec Inv-loop μ-loop returns returns-2 loop-holds mul-own element-copy-out-own returns-3 add-k loop-less loop-again returns-4)
+    (tie.spec Inv-loop μ-loop returns returns-2 (λ c. omega arith) (λ c. omega arith) (λ c. omega arith) returns-3
+    (λ c. omega arith) (λ c. omega arith) loop-again returns-4)

@@ -7,7 +7,9 @@ use Rattle.writer.proofs.effect_bytes.Tie as tie
 
 returns : tie.Need-returns
 unfolding kindOf
-returns c = rw (field-bits (c .before .before .args .e .constant) (c .before .struct-told .given .1 .1 .0 .1) (c .bits-of .ensures))
+returns c = rw (field-bits (c .before .before .args .e .constant) (c .before .struct-told .given .1 .1 .0 .1)
+    (c .bits-of .ensures))
 
 pub effect-bytes-spec : {M : Type 1} → statement M
-effect-bytes-spec = tie.close (tie.spec (λ _ _. tt) (λ c. search needs) (λ c. search needs) (λ c. search needs) (λ c. search needs) returns)
+effect-bytes-spec = tie.close (tie.spec (λ _ _. tt) (λ c. search needs) (λ c. search needs) (λ c. search needs)
+    (λ c. search needs) returns)

@@ -1,11 +1,11 @@
--- `writer::lay` meets its contract. The loop's invariant: what is laid out so far, with the blocks to come, is the whole; the effects used so far,
--- with the own effects of the blocks to come, are all; and the place goes with both counts. The measure is the blocks to come.
+-- `writer::lay` meets its contract. The loop's invariant: what is laid out so far, with the blocks to come, is the
+-- whole; the effects used so far, with the own effects of the blocks to come, are all; and the place goes with both
+-- counts. The measure is the blocks to come.
 use mathlib.Core.List.{List, [], _++_}
 use mathlib.Core.Path.{_≡_, refl, sym, ap, _∙_}
 use Prim.Native.Nat.{ℕ, suc, _+_, _*_, _≤_, _<_, _-_}
 use native.Mathlib.Numerals.{add-one}
 use native.Mathlib.Omega.{arith}
-use borrow.Author.Needs.{needs}
 use lib.ListN.{length, take, drop, getD, length-map, length-take}
 use lib.Seq.{getD-take, length-take-le}
 use Rattle.form.specs.declared.Block.{Block}
@@ -17,24 +17,22 @@ use Rattle.writer.proofs.lay.Tie as tie
 
 abbrev Inv-loop : tie.InvT-loop
 Inv-loop buf₀ count blocks effects at₀ k₀ e₀ buf at k e =
-    (take at buf ++ layBlocks (drop k (take count blocks)) (drop e effects) ≡ take at₀ buf₀ ++ layBlocks (take count blocks) effects)
+    (take at buf ++ layBlocks (drop k (take count blocks)) (drop e effects)
+    ≡ take at₀ buf₀ ++ layBlocks (take count blocks) effects)
     × ((e + sumOwn (drop k (take count blocks)) ≡ sumOwn (take count blocks))
     × ((at ≡ at₀ + (17 * k + 10 * e)) × ((k ≤ count) × (length buf ≡ length buf₀))))
 
 abbrev μ-loop : tie.MeasureT-loop
 μ-loop buf₀ count blocks effects at₀ k₀ e₀ buf at k e = count - k
 
-counter-bytes-requires : tie.Need-counter-bytes-requires Inv-loop μ-loop
-counter-bytes-requires c κs = search needs
-
 seventeen : (c : tie.After-counter-bytes Inv-loop μ-loop) → length (c .counter-bytes .result) ≡ 17
 seventeen c = ap length (c .counter-bytes .ensures)
 
-slice-aggregate-copy-in : tie.Need-slice-aggregate-copy-in Inv-loop μ-loop
-slice-aggregate-copy-in c = sym (seventeen (c .before .before))
+slice-aggregate-put : tie.Need-slice-aggregate-put Inv-loop μ-loop
+slice-aggregate-put c = sym (seventeen (c .before .before))
 
-copy-in-requires : tie.Need-copy-in-requires Inv-loop μ-loop
-copy-in-requires c κs = omega (arith, seventeen (c .before .before))
+put-requires : tie.Need-put-requires Inv-loop μ-loop
+put-requires c κs = omega (arith, seventeen (c .before .before))
 
 loop-holds : tie.Need-loop-holds Inv-loop μ-loop
 loop-holds c = (refl, omega arith)
@@ -47,15 +45,16 @@ abbrev body : tie.At-loop Inv-loop μ-loop → Body
 body c = entry c .args .body
 
 -- the counter took 17 bytes
-began : (c : tie.At-loop Inv-loop μ-loop) → c .before .before .before .copy-in .result ≡ 17
+began : (c : tie.At-loop Inv-loop μ-loop) → c .before .before .before .put .result ≡ 17
 began c =
     let copied = c .before .before .before in
-    omega (arith, copied .copy-in .ensures .0, seventeen (copied .before .before .before))
+    omega (arith, copied .put .ensures .0 .0, seventeen (copied .before .before .before))
 
 room : (c : tie.At-loop Inv-loop μ-loop) → 3665 ≤ length (c .loop .buf)
-room c = omega (arith, c .before .before .before .copy-in .kept .0, entry c .pre .1)
+room c = omega (arith, c .before .before .before .put .kept .0, entry c .pre .1)
 
-known : (c : tie.At-loop Inv-loop μ-loop) → (body c .count ≤ 64) × (sumOwn (take (body c .count) (body c .blocks)) ≤ 256)
+known : (c : tie.At-loop Inv-loop μ-loop)
+    → (body c .count ≤ 64) × (sumOwn (take (body c .count) (body c .blocks)) ≤ 256)
 known c = counts-known (body c) (entry c .pre .0)
 
 sixty-four : (c : tie.At-loop Inv-loop μ-loop) → length (body c .blocks) ≡ 64
@@ -70,13 +69,15 @@ module _ (c : tie.In-loop Inv-loop μ-loop) where
   block = getD (body (c .before) .blocks) (c .before .loop .k) zeroBlock
 
   here : getD blocks (c .before .loop .k) zeroBlock ≡ block
-  here = getD-take (body (c .before) .count) (body (c .before) .blocks) (c .before .loop .k) zeroBlock (c .loop-test .taken)
+  here = getD-take (body (c .before) .count) (body (c .before) .blocks) (c .before .loop .k) zeroBlock
+      (c .loop-test .taken)
 
   inside : c .before .loop .k < length blocks
   inside = simp length-take (omega (arith, sixty-four (c .before), known (c .before)))
 
   sum : sumOwn (drop (c .before .loop .k) blocks) ≡ block .effects + sumOwn (drop (suc (c .before .loop .k)) blocks)
-  sum = sum-step blocks (c .before .loop .k) ∙ ap (λ (b : Block). b .effects + sumOwn (drop (suc (c .before .loop .k)) blocks)) here
+  sum = sum-step blocks (c .before .loop .k)
+      ∙ ap (λ (b : Block). b .effects + sumOwn (drop (suc (c .before .loop .k)) blocks)) here
 
 mul-block : tie.Need-mul-block Inv-loop μ-loop
 mul-block c = omega (arith, known (c .before))
@@ -109,21 +110,24 @@ loop-again c =
     let loop = turn .before .loop in
     let whole =
     blocks-laid (blocks turn) (loop .k) (body (turn .before) .effects) (loop .e) (inside turn) (block turn) (here turn)
-    (take (loop .at) (loop .buf)) (take (laid .lay-block .result) (laid .lay-block .last .0)) _ (loop .inv .0) (laid .lay-block .ensures .1) in
+    (take (loop .at) (loop .buf)) (take (laid .lay-block .result) (laid .lay-block .last .0)) _ (loop .inv .0)
+    (laid .lay-block .ensures .1) in
     rw (add-one (loop .k))
     (whole, omega (arith, sum turn, laid .lay-block .ensures .0, laid .lay-block .kept .0, turn .loop-test .taken))
 
 same-length : tie.Need-same-length Inv-loop μ-loop
-same-length c = c .before .loop .inv .1 .1 .1 .1 ∙ c .before .before .before .before .copy-in .kept .0
+same-length c = c .before .loop .inv .1 .1 .1 .1 ∙ c .before .before .before .before .put .kept .0
 
 -- where the loop begins the counter stands laid out
 counted : (c : tie.At-loop Inv-loop μ-loop)
-    → take (c .before .before .before .copy-in .result) (c .before .before .before .copy-in .last .0) ≡ counterBytes (body c .counter)
+    → take (c .before .before .before .put .result) (c .before .before .before .put .last .0)
+    ≡ counterBytes (body c .counter)
 counted c =
     let copied = c .before .before .before in
     let made = copied .before .before .before in
-    (λ i. take (copied .copy-in .ensures .0 i) (copied .copy-in .ensures .1 i))
-    ∙ (lay-more (entry c .args .buf .now) (made .counter-bytes .result) [] 0 (omega arith) refl ∙ made .counter-bytes .ensures)
+    (λ i. take (copied .put .ensures .0 .0 i) (copied .put .ensures .0 .1 i))
+    ∙ (lay-more (entry c .args .buf .now) (made .counter-bytes .result) [] 0 (omega arith) refl
+    ∙ made .counter-bytes .ensures)
 
 returns : tie.Need-returns Inv-loop μ-loop
 unfolding lay
@@ -134,13 +138,15 @@ returns c =
     let none = sum-end (body head .count) (loop .k) all (body head .blocks) in
     let small : loop .at ≤ 3665 = omega (arith, none, known head, began head) in
     let laid =
-    blocks-end (body head .count) (loop .k) all (body head .blocks) (drop (loop .e) (body head .effects)) (take (loop .at) (loop .buf)) _
+    blocks-end (body head .count) (loop .k) all (body head .blocks) (drop (loop .e) (body head .effects))
+    (take (loop .at) (loop .buf)) _
     (loop .inv .0)
-    ∙ ap (λ (l : List ℕ). l ++ layBlocks (take (body head .count) (body head .blocks)) (body head .effects)) (counted head) in
+    ∙ ap (λ (l : List ℕ). l ++ layBlocks (take (body head .count) (body head .blocks)) (body head .effects))
+    (counted head) in
     (sym (length-take-le (loop .at) (loop .buf) (omega (arith, small, room head))) ∙ ap length laid, (small, laid))
 
 pub lay-spec : {M : Type 1} → statement M
 lay-spec =
     tie.close
-    (tie.spec Inv-loop μ-loop counter-bytes-requires slice-aggregate-copy-in copy-in-requires loop-holds mul-block array-copy-out-block
+    (tie.spec Inv-loop μ-loop (λ _ _. tt) slice-aggregate-put put-requires loop-holds mul-block array-copy-out-block
     lay-block-requires add-e add-k loop-less loop-again same-length returns)

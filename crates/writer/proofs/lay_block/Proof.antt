@@ -14,8 +14,9 @@ returns c =
     let made = copied .before .before .before in
     let start = made .before .before in (
       omega (arith, ap length (made .block-bytes .ensures)),
-      block-laid (start .args .buf .now) _ (laid .lay-effects .last .0) _ _ _ (start .args .at) _ (laid .lay-effects .result) (omega arith) (made .block-bytes .ensures)
-          (copied .copy-in .ensures .0) (copied .copy-in .ensures .1) (laid .lay-effects .ensures .1),
+      block-laid (start .args .buf .now) _ (laid .lay-effects .last .0) _ _ _ (start .args .at) _
+          (laid .lay-effects .result) (omega arith) (made .block-bytes .ensures)
+          (copied .put .ensures .0 .0) (copied .put .ensures .0 .1) (laid .lay-effects .ensures .1),
     )
 
 pub lay-block-spec : {M : Type 1} → statement M

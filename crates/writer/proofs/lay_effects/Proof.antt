@@ -1,12 +1,11 @@
--- `writer::lay_effects` meets its contract. The loop's invariant: up to `to` stand what stood before `at` and then the first j effects. The
--- measure is the effects to come.
+-- `writer::lay_effects` meets its contract. The loop's invariant: up to `to` stand what stood before `at` and then the
+-- first j effects. The measure is the effects to come.
 use mathlib.Core.List.{_++_, append-nil}
 use mathlib.Core.Path.{_≡_, sym, ap, _∙_}
-use Prim.Native.Nat.{ℕ, suc, _+_, _*_, _≤_, _-_, _<_}
+use Prim.Native.Nat.{_+_, _*_, _≤_, _-_, _<_}
 use native.Mathlib.Numerals.{add-one}
 use native.Mathlib.Omega.{arith}
-use borrow.Author.Needs.{needs}
-use lib.ListN.{length, take, drop, length-drop, getD}
+use lib.ListN.{length, take, drop, length-drop}
 use lib.Seq.{getD-drop}
 use Rattle.form.specs.Form.{layEffects, effectBytes, zeroEffect}
 use Rattle.form.specs.Laying.{effects-laid, effects-none}
@@ -22,34 +21,19 @@ abbrev μ-loop : tie.MeasureT-loop
 μ-loop buf₀ at from n effects to₀ j₀ buf to j = n - j
 
 loop-holds : tie.Need-loop-holds Inv-loop μ-loop
-loop-holds c = (rw (effects-none (drop (c .before .args .from) (c .before .args .t3))) (sym (append-nil _)), omega arith)
-
-add-effect-bytes : tie.Need-add-effect-bytes Inv-loop μ-loop
-add-effect-bytes c = omega arith
-
-mul-effect-bytes : tie.Need-mul-effect-bytes Inv-loop μ-loop
-mul-effect-bytes c = omega arith
-
-array-copy-out-effect-bytes : tie.Need-array-copy-out-effect-bytes Inv-loop μ-loop
-array-copy-out-effect-bytes c = omega arith
-
-effect-bytes-requires : tie.Need-effect-bytes-requires Inv-loop μ-loop
-effect-bytes-requires c κs = search needs
+loop-holds c = (
+  rw (effects-none (drop (c .before .args .from) (c .before .args .t3))) (sym (append-nil _)),
+  omega arith,
+)
 
 ten : (c : tie.After-effect-bytes Inv-loop μ-loop) → length (c .effect-bytes .result) ≡ 10
 ten c = ap length (c .effect-bytes .ensures)
 
-slice-aggregate-copy-in : tie.Need-slice-aggregate-copy-in Inv-loop μ-loop
-slice-aggregate-copy-in c = sym (ten (c .before .before))
+slice-aggregate-put : tie.Need-slice-aggregate-put Inv-loop μ-loop
+slice-aggregate-put c = sym (ten (c .before .before))
 
-copy-in-requires : tie.Need-copy-in-requires Inv-loop μ-loop
-copy-in-requires c κs = omega (arith, ten (c .before .before))
-
-add-j : tie.Need-add-j Inv-loop μ-loop
-add-j c = omega arith
-
-loop-less : tie.Need-loop-less Inv-loop μ-loop
-loop-less c = omega arith
+put-requires : tie.Need-put-requires Inv-loop μ-loop
+put-requires c κs = omega (arith, ten (c .before .before))
 
 loop-again : tie.Need-loop-again Inv-loop μ-loop
 loop-again c =
@@ -59,10 +43,12 @@ loop-again c =
     let start = at-loop .before .before in
     let rest = drop (start .args .from) (start .args .t3) in
     let in-effects : at-loop .loop .j < length rest = simp length-drop (omega (arith, start .good .1 .1 .0 .1 .0 .1)) in (
-      rw (copied .copy-in .ensures .0, copied .copy-in .ensures .1, add-one (at-loop .loop .j))
-          (effects-laid (at-loop .loop .buf) _ (take (start .args .at) (start .args .buf .now)) (at-loop .loop .to) rest (at-loop .loop .j)
+      rw (copied .put .ensures .0 .0, copied .put .ensures .0 .1, add-one (at-loop .loop .j))
+          (effects-laid (at-loop .loop .buf) _ (take (start .args .at) (start .args .buf .now)) (at-loop .loop .to) rest
+          (at-loop .loop .j)
           (omega arith) in-effects (at-loop .loop .inv .0)
-          (made .effect-bytes .ensures ∙ ap effectBytes (sym (getD-drop (start .args .from) (start .args .t3) (at-loop .loop .j) zeroEffect)))),
+          (made .effect-bytes .ensures
+          ∙ ap effectBytes (sym (getD-drop (start .args .from) (start .args .t3) (at-loop .loop .j) zeroEffect)))),
       omega (arith, ten made),
     )
 
@@ -77,5 +63,5 @@ returns c =
 pub lay-effects-spec : {M : Type 1} → statement M
 lay-effects-spec =
     tie.close
-    (tie.spec Inv-loop μ-loop loop-holds add-effect-bytes mul-effect-bytes array-copy-out-effect-bytes effect-bytes-requires
-    slice-aggregate-copy-in copy-in-requires add-j loop-less loop-again same-length returns)
+    (tie.spec Inv-loop μ-loop loop-holds (λ c. omega arith) (λ c. omega arith) (λ c. omega arith) (λ _ _. tt)
+    slice-aggregate-put put-requires (λ c. omega arith) (λ c. omega arith) loop-again same-length returns)

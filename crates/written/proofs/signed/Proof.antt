@@ -23,4 +23,5 @@ sub-result c =
     rw (turned c) fits
 
 pub signed-spec : {M : Type 1} → statement M
-signed-spec = tie.close (tie.spec (λ c. search needs) (λ c. search needs) sub-result (λ c. search needs) (λ c. search needs) (λ c. search needs))
+signed-spec = tie.close (tie.spec (λ c. search needs) (λ c. search needs) sub-result (λ c. search needs)
+    (λ c. search needs) (λ c. search needs))

@@ -22,12 +22,12 @@ enum-known-n c = search needs
 array-share-prefix-out : tie.Need-array-share-prefix-out
 array-share-prefix-out c =
     let here = c .before .before .before .before in
-    listed-fits _ _ _ _ _ (here .conflicts .ensures .0) (here .conflicts .ensures .1) (c .before .n .given .1) .0
+    listed-fits _ _ _ _ _ (here .conflicts .ensures .0) (here .conflicts .ensures .1 .0) (c .before .n .given .1) .0
 
 slice-aggregate-entries : tie.Need-slice-aggregate-entries
 slice-aggregate-entries c =
     let here = c .before .before .before .before .before in
-    listed-fits _ _ _ _ _ (here .conflicts .ensures .0) (here .conflicts .ensures .1) (c .before .before .n .given .1) .1
+    listed-fits _ _ _ _ _ (here .conflicts .ensures .0) (here .conflicts .ensures .1 .0) (c .before .before .n .given .1) .1
 
 entries-requires : tie.Need-entries-requires
 entries-requires c κs = search needs

@@ -1,8 +1,17 @@
-// The plan's words of a block, each by its name (theory's Plan). A way, and a side of a set of edges, is 1 (jump or go) or 2 (fall).
+// What both ways work on: the plan's words of a block, each by its name (theory's Plan), and a way to the end. A way, and a side of a set of edges, is 1 (jump or go)
+// or 2 (fall). The plan itself is made by the crate plan.
 ghost use mathlib.Core.Path.{_≡_};
 ghost use Prim.Native.Nat.{_<_};
 ghost use lib.ListN.{length};
 ghost use Rattle.theory.specs.Plan.{testAt, targetAt, touchedAt, deniedAt, againstAt, listedAt, costAt};
+
+// A way to the end of a body as words: its weight, the blocks left by jump or go, the blocks left by fall.
+#[repr(C)]
+pub struct Way {
+    pub weight: u64,
+    pub jumped: u64,
+    pub fallen: u64,
+}
 
 // 1 where the block is a test, else 0.
 pub fn test(plan: &[u64], b: usize) -> u64
