@@ -179,13 +179,20 @@ for file in $trusted; do
         check "$file is trusted and rests on ${other:-$crate.$dotted}, which is not" is_trusted "$other"
     done < <(sed -nE 's/^use Rattle·([a-z_0-9]+)(·specs)?\.specs\.([A-Z][A-Za-z.]*).*/\1 \3/p' "$file" | sed 's/\.$//' | sort -u)
 done
-# A public call's contract cites trusted files alone, unless its section says of what it cites that it is 'no trusted file'.
+# A public call's contract cites trusted files alone, unless its section says of what it cites that it is 'no trusted file'. Its section has the call in its heading,
+# or, where the heading says 'between crates', as the first cell of a table's row.
 for file in crates/*/src/*.rt; do
     crate=$(cut -d / -f 2 <<<"$file")
     if [ -f "crates/$crate/src/main.rt" ]; then continue; fi
+    module=$(basename "$file" .rt)
+    if [ "$module" = lib ]; then module=$crate; else module=$crate::$module; fi
     while IFS= read -r call; do
         whole=$(contract "$crate::$call")
-        section=$(awk -v call="::$call\`" '/^#/ { within = index($0, call) > 0 } within' "$promises")
+        section=$(awk -v call="\`$module::$call\`" '
+            /^#/ { if (found) printf "%s", text; text = ""; found = index($0, call) > 0; between = /between crates/ }
+            between && index($0, "| " call) == 1 { found = 1 }
+            { text = text $0 "\n" }
+            END { if (found) printf "%s", text }' "$promises")
         while read -r other dotted names; do
             read -r spec rest < <(spec_file "$other" "$dotted")
             for name in ${names//,/ }; do
