@@ -16,6 +16,7 @@ use Rattle.laws.specs.Sets.{bit-setOf, bit-setOf-beyond, below-or-not}
 use Rattle.form.specs.declared.Block.{Block}
 use Rattle.form.specs.declared.Body.{Body}
 use Rattle.form.specs.Conflict.{Edge, Pair, block, exitsBy, exits, wayTo, isTest, condition, touches, opposes, denies, listed, conflicts, same, secondOf, Holds, Sound, noBlock}
+use Rattle.lower_laws.specs.Endings.{by-exits}
 use Rattle.lower_laws.specs.Blocks.{beyond}
 use Rattle.lower_laws.specs.Joined.{past-count, no-test, denies-test, opposes-test, listed-none}
 use Rattle.form.specs.Form.{when}
@@ -24,6 +25,7 @@ use Rattle.sets.specs.Local.{localOf}
 use Rattle.sets.specs.Found.{setsOf}
 use Rattle.words.specs.Tabled.{tabled, rows}
 use Rattle.words.specs.Filled.{tabled-at}
+use Rattle.theory.specs.PlanWays.{by-way}
 use Rattle.theory.specs.Route.{stepCost}
 use Rattle.theory.specs.Plan.{wordAt, targetAt, deniedAt, againstAt, listedAt, exitBy, IsWay, Planned}
 
@@ -147,20 +149,11 @@ exits-back :
     (ending jump fall : ℕ) → ((o : ℕ × ℕ) → Mem o (exitsBy ending jump fall) → o .1 < 64)
     → exitsBy ending jump fall
     ≡ exitBy 1 (wayTo 1 (exitsBy ending jump fall)) ++ exitBy 2 (wayTo 2 (exitsBy ending jump fall))
-exits-back zero jump fall h = refl
-exits-back (suc zero) jump fall h = rw (lt-ltb jump 64 (h (1, jump) (inl refl)))
-exits-back (suc (suc zero)) jump fall h =
-    rw (lt-ltb jump 64 (h (1, jump) (inl refl)), lt-ltb fall 64 (h (2, fall) (inr (inl refl))))
-exits-back (suc (suc (suc zero))) jump fall h =
-    rw (lt-ltb jump 64 (h (1, jump) (inl refl)), lt-ltb fall 64 (h (2, fall) (inr (inl refl))))
-exits-back (suc (suc (suc (suc n)))) jump fall h = refl
-
--- what holds of both ways
-each-way : (P : ℕ → Type 0) → P 1 → P 2 → (way : ℕ) → IsWay way → P way
-each-way P j f zero (l, h) = let z : ⊥ = omega arith in absurd z
-each-way P j f (suc zero) w = j
-each-way P j f (suc (suc zero)) w = f
-each-way P j f (suc (suc (suc n))) (l, h) = let z : ⊥ = omega arith in absurd z
+exits-back ending jump fall =
+    by-exits jump fall
+    (λ l. ((o : ℕ × ℕ) → Mem o l → o .1 < 64) → l ≡ exitBy 1 (wayTo 1 l) ++ exitBy 2 (wayTo 2 l)) (λ h. refl)
+    (λ h. rw (lt-ltb jump 64 (h (1, jump) (inl refl))))
+    (λ h. rw (lt-ltb jump 64 (h (1, jump) (inl refl)), lt-ltb fall 64 (h (2, fall) (inr (inl refl))))) ending
 
 -- ---- nothing past the last block
 
@@ -235,22 +228,22 @@ module _ (body : Body) (g : Sound body) where
     denied : (b k : ℕ) → b < body .count → k < body .count → (side : ℕ) → IsWay side
         → bit (deniedAt plan b side) k ≡ denies body b (k, side)
     denied b k h i =
-        each-way (λ side. bit (deniedAt plan b side) k ≡ denies body b (k, side))
+        by-way (λ side. bit (deniedAt plan b side) k ≡ denies body b (k, side))
         (within-word b 4 _ h (omega arith) refl k i) (within-word b 5 _ h (omega arith) refl k i)
 
     against : (b k : ℕ) → b < body .count → k < body .count → (way : ℕ) → IsWay way → (side : ℕ) → IsWay side
         → bit (againstAt plan b way side) k ≡ opposes body (b, way) (k, side)
     against b k h i =
-        each-way (λ way. (side : ℕ) → IsWay side → bit (againstAt plan b way side) k ≡ opposes body (b, way) (k, side))
-        (each-way (λ side. bit (againstAt plan b 1 side) k ≡ opposes body (b, 1) (k, side))
+        by-way (λ way. (side : ℕ) → IsWay side → bit (againstAt plan b way side) k ≡ opposes body (b, way) (k, side))
+        (by-way (λ side. bit (againstAt plan b 1 side) k ≡ opposes body (b, 1) (k, side))
         (within-word b 6 _ h (omega arith) refl k i) (within-word b 7 _ h (omega arith) refl k i))
-        (each-way (λ side. bit (againstAt plan b 2 side) k ≡ opposes body (b, 2) (k, side))
+        (by-way (λ side. bit (againstAt plan b 2 side) k ≡ opposes body (b, 2) (k, side))
         (within-word b 8 _ h (omega arith) refl k i) (within-word b 9 _ h (omega arith) refl k i))
 
     listed-are : (b k : ℕ) → b < body .count → k < body .count → (side : ℕ) → IsWay side
         → bit (listedAt plan b side) k ≡ listed (conflicts body) b (k, side)
     listed-are b k h i =
-        each-way (λ side. bit (listedAt plan b side) k ≡ listed (conflicts body) b (k, side))
+        by-way (λ side. bit (listedAt plan b side) k ≡ listed (conflicts body) b (k, side))
         (within-word b 10 _ h (omega arith) refl k i) (within-word b 11 _ h (omega arith) refl k i)
 
     pub planned : Planned body (stepCost body) plan

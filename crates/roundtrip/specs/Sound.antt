@@ -18,6 +18,7 @@ use mir.Syntax.{w32}
 use mir.Val.{SFits}
 use Rattle.laws.specs.Terms.{Mem}
 use Rattle.laws.specs.Tests.{or-no}
+use Rattle.lower_laws.specs.Endings.{by-ending}
 use Rattle.form.specs.declared.Block.{Block}
 use Rattle.form.specs.declared.Effect.{Effect}
 use Rattle.form.specs.declared.Body.{Body}
@@ -263,36 +264,34 @@ module _ (s : List ℕ) (a : judge s ≡ Accepted) where
 -- ---- what routes and conflicts ask for
 
 -- a target that some exit has is used
-by-exits :
+at-targets :
     (P : ℕ → Type 0) (ending jump fall : ℕ) → (0 < ending → P jump) → (1 < ending → P fall) → (o : ℕ × ℕ)
     → Mem o (exitsBy ending jump fall) → P (o .1)
-by-exits P zero jump fall j f o m = absurd m
-by-exits P (suc zero) jump fall j f o (inl e) = subst (λ (q : ℕ × ℕ). P (q .1)) (sym e) (j (omega arith))
-by-exits P (suc zero) jump fall j f o (inr m) = absurd m
-by-exits P (suc (suc zero)) jump fall j f o (inl e) = subst (λ (q : ℕ × ℕ). P (q .1)) (sym e) (j (omega arith))
-by-exits P (suc (suc zero)) jump fall j f o (inr (inl e)) = subst (λ (q : ℕ × ℕ). P (q .1)) (sym e) (f (omega arith))
-by-exits P (suc (suc zero)) jump fall j f o (inr (inr m)) = absurd m
-by-exits P (suc (suc (suc zero))) jump fall j f o (inl e) = subst (λ (q : ℕ × ℕ). P (q .1)) (sym e) (j (omega arith))
-by-exits P (suc (suc (suc zero))) jump fall j f o (inr (inl e)) = subst (λ (q : ℕ × ℕ). P (q .1)) (sym e)
-    (f (omega arith))
-by-exits P (suc (suc (suc zero))) jump fall j f o (inr (inr m)) = absurd m
-by-exits P (suc (suc (suc (suc n)))) jump fall j f o m = absurd m
+at-targets P ending jump fall =
+    by-ending jump fall (λ e l. (0 < e → P jump) → (1 < e → P fall) → (o : ℕ × ℕ) → Mem o l → P (o .1))
+    (λ j f o m. absurd m) (λ j f o m. one (j (omega arith)) o m) (λ j f o m. both (j (omega arith)) (f (omega arith)) o m)
+    (λ j f o m. both (j (omega arith)) (f (omega arith)) o m) (λ above h j f o m. absurd m) ending
+  where
+    one : P jump → (o : ℕ × ℕ) → Mem o ((1, jump) ∷ []) → P (o .1)
+    one j o (inl e) = subst (λ (q : ℕ × ℕ). P (q .1)) (sym e) j
+
+    both : P jump → P fall → (o : ℕ × ℕ) → Mem o ((1, jump) ∷ (2, fall) ∷ []) → P (o .1)
+    both j f o (inl e) = subst (λ (q : ℕ × ℕ). P (q .1)) (sym e) j
+    both j f o (inr (inl e)) = subst (λ (q : ℕ × ℕ). P (q .1)) (sym e) f
 
 -- a block that does not end is left by jump
 left-by-jump : (ending jump fall : ℕ) → 0 < ending → ending ≤ 3 → Mem (1, jump) (exitsBy ending jump fall)
-left-by-jump zero jump fall some few = absurd (omega arith)
-left-by-jump (suc zero) jump fall some few = inl refl
-left-by-jump (suc (suc zero)) jump fall some few = inl refl
-left-by-jump (suc (suc (suc zero))) jump fall some few = inl refl
-left-by-jump (suc (suc (suc (suc n)))) jump fall some few = absurd (omega arith)
+left-by-jump ending jump fall =
+    by-ending jump fall (λ e l. 0 < e → e ≤ 3 → Mem (1, jump) l) (λ some few. absurd (omega arith)) (λ some few. inl refl)
+    (λ some few. inl refl) (λ some few. inl refl) (λ above h some few. absurd (omega arith)) ending
 
 module _ (body : Body) (w : WellFormed body) where
   pub onward : Onward body
   unfolding exits block-of
   onward =
       record {
-        above = λ b. by-exits (λ t. b < t) _ _ _ (w .blocks b .jump-above) (w .blocks b .fall-above);
-        inside = λ b. by-exits (λ t. t < body .count) _ _ _ (w .blocks b .jump-inside) (w .blocks b .fall-inside);
+        above = λ b. at-targets (λ t. b < t) _ _ _ (w .blocks b .jump-above) (w .blocks b .fall-above);
+        inside = λ b. at-targets (λ t. t < body .count) _ _ _ (w .blocks b .jump-inside) (w .blocks b .fall-inside);
       }
 
   pub is-sound : ((b : ℕ) (e : Effect) → Mem e (effectsOf body b) → SFits w32 (e .constant)) → Sound body

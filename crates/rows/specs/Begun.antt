@@ -1,8 +1,9 @@
--- A row before its tails come in: empty, but for the last block's, which has its own entry. Rests on Entries and theory's Plan.
+-- A row before its tails come in: empty, but for the last block's, which has its own entry. Rests on Entries and
+-- theory's Plan.
 use mathlib.Core.Path.{_≡_, refl, _∙_}
 use mathlib.Core.Bool.{cond}
 use mathlib.Core.List.{List, [], _∷_}
-use Prim.Native.Nat.{ℕ, suc, _+_, _*_, _≤_}
+use Prim.Native.Nat.{ℕ, suc, _*_, _≤_}
 use native.Mathlib.Omega.{arith}
 use borrow.Author.Tests.{eq-eqb, ne-eqb, ltb-true, ltb-false}
 use lib.Dec.{eqb, ltb}
@@ -52,4 +53,10 @@ module _ (plan : List ℕ) (count b : ℕ) where
   pub begun-other : (suc b ≡ count → ⊥) → Holds (begunWith plan count b) zeroRow 0
   unfolding entriesFrom
   begun-other not-last =
-      record { few = omega arith; size = zero-length; held = rw (ne-eqb (suc b) count not-last) refl; zeros = λ k h. zero-at k }
+      record {
+        few = omega arith;
+        size = zero-length;
+        held = rw (ne-eqb (suc b) count not-last) refl;
+        zeros = λ k h.
+            zero-at k;
+      }

@@ -1,11 +1,11 @@
--- A row made of the rows of its targets, on the words of a plan: the tails by each way, one entry after another, into the row under construction. Rests on Entries and
+-- A row made of the rows of its targets, on the words of a plan: the tails by each way, one entry after another, into
+-- the row under construction. Rests on Entries and
 -- Steps.
-use mathlib.Core.Path.{_≡_, refl, sym, ap, ap₂, subst, _∙_}
-use mathlib.Core.Logic.{_⊎_, inl, inr}
+use mathlib.Core.Path.{_≡_, refl, sym, ap, ap₂, _∙_}
 use mathlib.Core.Bool.{Bool, true, false, cond}
 use mathlib.Core.List.{List, [], _∷_}
 use mathlib.Core.Option.{Option, none, some}
-use Prim.Native.Nat.{ℕ, zero, suc, _+_, _*_, _-_, _^_, _≤_, _<_}
+use Prim.Native.Nat.{ℕ, suc, _+_, _*_, _-_, _^_, _≤_, _<_}
 use native.Mathlib.Nat.{le-refl, le-trans, sub-zero}
 use native.Mathlib.Numerals.{add-one}
 use borrow.Author.Tests.{eqb-true, eqb-false, eq-eqb, ne-eqb}
@@ -49,7 +49,8 @@ module _ (plan : List ℕ) (b : ℕ) where
 
   -- the tails by this way and those after it
   unfoldable pub leftFrom : (tails : ℕ → List (Key × Words)) → ℕ → List (Key × Words) → List (Key × Words)
-  leftFrom tails way r = cond (eqb way 1) (pouredBy 2 (tails 2) (pouredBy 1 (tails 1) r)) (cond (eqb way 2) (pouredBy 2 (tails 2) r) r)
+  leftFrom tails way r = cond (eqb way 1) (pouredBy 2 (tails 2) (pouredBy 1 (tails 1) r))
+      (cond (eqb way 2) (pouredBy 2 (tails 2) r) r)
 
   -- what making row b asks of the words: room for what is read, and weights that fit
   pub record Ready (tails : Tails) (first second : List ℕ) : Type 0 where
@@ -59,9 +60,11 @@ module _ (plan : List ℕ) (b : ℕ) where
     pub second-size : length second ≡ 320
     pub jumps-few : tails .jumps ≤ 64
     pub falls-few : tails .falls ≤ 64
-    pub light : (way i : ℕ) → i < manyOf tails way → costAt plan b way + entryAt (sourceOf first second way) i .1 .0 < 2 ^ 64
+    pub light : (way i : ℕ) → i < manyOf tails way → costAt plan b way + entryAt
+        (sourceOf first second way) i .1 .0 < 2 ^ 64
 
-pub many-few : (plan : List ℕ) (b : ℕ) (tails : Tails) (first second : List ℕ) → Ready plan b tails first second → (way : ℕ) → manyOf tails way ≤ 64
+pub many-few : (plan : List ℕ) (b : ℕ) (tails : Tails) (first second : List ℕ) → Ready plan b tails first second →
+    (way : ℕ) → manyOf tails way ≤ 64
 many-few plan b tails first second ready way = by (eqb way 1)
   where
     by : (c : Bool) → cond c (tails .jumps) (tails .falls) ≤ 64
@@ -91,7 +94,8 @@ module _ (plan : List ℕ) (b : ℕ) (tails : ℕ → List (Key × Words)) where
       one : (way : ℕ) (r : List (Key × Words)) → length r ≤ length (pouredBy plan b way (tails way) r)
       one way r = poured-grows (sideOf plan b way 1) (sideOf plan b way 2) (costAt plan b way) (tails way) r
 
-      by : (c d : Bool) → length r ≤ length (cond c (pouredBy plan b 2 (tails 2) (pouredBy plan b 1 (tails 1) r)) (cond d (pouredBy plan b 2 (tails 2) r) r))
+      by : (c d : Bool) → length r ≤ length (cond c (pouredBy plan b 2 (tails 2) (pouredBy plan b 1 (tails 1) r))
+          (cond d (pouredBy plan b 2 (tails 2) r) r))
       by true d = le-trans (one 1 r) (one 2 (pouredBy plan b 1 (tails 1) r))
       by false true = one 2 r
       by false false = le-refl (length r)
@@ -99,26 +103,43 @@ module _ (plan : List ℕ) (b : ℕ) (tails : ℕ → List (Key × Words)) where
 -- ---- a row under construction
 
 -- the row holds n entries, and what is left to do with them gives the whole; the words past them are as they were
-pub record Filling (todo : List (Key × Words) → List (Key × Words)) (whole : List (Key × Words)) (old row : List ℕ) (n : ℕ) : Type 0 where
+pub record Filling (todo : List (Key × Words) → List (Key × Words)) (whole : List (Key × Words)) (old row : List ℕ)
+    (n : ℕ) : Type 0 where
   pub few : n ≤ 64
   pub size : length row ≡ 320
   pub left : todo (entriesFrom row 0 n) ≡ whole
   pub rest : (k : ℕ) → 5 * n ≤ k → getD row k 0 ≡ getD old k 0
 
-pub filling-start : (todo : List (Key × Words) → List (Key × Words)) (row : List ℕ) (n : ℕ) → n ≤ 64 → length row ≡ 320 → Filling todo (todo (entriesFrom row 0 n)) row row n
+pub filling-start : (todo : List (Key × Words) → List (Key × Words)) (row : List ℕ) (n : ℕ) → n ≤ 64 → length row ≡ 320
+    → Filling todo (todo (entriesFrom row 0 n)) row row n
 filling-start todo row n h s = record { few = h; size = s; left = refl; rest = λ k b. refl }
 
-pub filling-end : (whole : List (Key × Words)) (old row : List ℕ) (n : ℕ) → Filling (λ r. r) whole old row n → Grown whole old row n
-filling-end whole old row n f = record { most = omega (arith, f .few); held = λ h. f .left; over = λ h. absurd (never h); rest = f .rest }
+pub filling-end : (whole : List (Key × Words)) (old row : List ℕ) (n : ℕ) → Filling (λ r. r) whole old row n
+    → Grown whole old row n
+filling-end whole old row n f = record {
+  most = omega (arith, f .few);
+  held = λ h. f .left;
+  over = λ h. absurd
+      (never h);
+  rest = f .rest;
+}
   where
     never : 64 < n → ⊥
     never h = omega (arith, f .few)
 
-module _ (todo then : List (Key × Words) → List (Key × Words)) (whole : List (Key × Words)) (old row : List ℕ) (n : ℕ) (f : Filling todo whole old row n) where
+module _ (todo then : List (Key × Words) → List (Key × Words)) (whole : List (Key × Words)) (old row : List ℕ) (n : ℕ)
+    (f : Filling todo whole old row n) where
   pub filling-same : ((r : List (Key × Words)) → todo r ≡ then r) → Filling then whole old row n
-  filling-same h = record { few = f .few; size = f .size; left = sym (h (entriesFrom row 0 n)) ∙ f .left; rest = f .rest }
+  filling-same h = record {
+    few = f .few;
+    size = f .size;
+    left = sym (h (entriesFrom row 0 n)) ∙ f .left;
+    rest = f .rest;
+  }
 
-  module _ (one : List (Key × Words) → List (Key × Words)) (one-then : (r : List (Key × Words)) → todo r ≡ then (one r)) (grows : (r : List (Key × Words)) → length r ≤ length (one r))
+  module _ (one : List (Key × Words) → List (Key × Words))
+      (one-then : (r : List (Key × Words)) → todo r ≡ then (one r))
+      (grows : (r : List (Key × Words)) → length r ≤ length (one r))
       (new : List ℕ) (m : ℕ) (grown : Grown (one (entriesFrom row 0 n)) row new m) where
     pub filling-more : length new ≡ 320 → m ≤ 64 → Filling then whole old new m
     filling-more s h = record {
@@ -129,16 +150,24 @@ module _ (todo then : List (Key × Words) → List (Key × Words)) (whole : List
     }
       where
         longer : n ≤ m
-        longer = omega (arith, grows (entriesFrom row 0 n), entries-length row 0 n, ap length (grown .held h), entries-length new 0 m)
+        longer = omega (
+          arith,
+          grows (entriesFrom row 0 n),
+          entries-length row 0 n,
+          ap length (grown .held h),
+          entries-length new 0 m,
+        )
 
     -- the 65th set
     pub filling-over : ((r : List (Key × Words)) → length r ≤ length (then r)) → 64 < m → 64 < length whole
     filling-over g h =
-        let e : length (then (one (entriesFrom row 0 n))) ≡ length whole = ap length (sym (one-then (entriesFrom row 0 n)) ∙ f .left) in
+        let e : length (then (one (entriesFrom row 0 n))) ≡ length whole = ap length
+        (sym (one-then (entriesFrom row 0 n)) ∙ f .left) in
         omega (arith, e, g (one (entriesFrom row 0 n)), grown .over h)
 
 -- the 65th set has been met: the words past it are none
-pub grown-past : (whole : List (Key × Words)) (old row : List ℕ) (n : ℕ) → length old ≡ 320 → length row ≡ 320 → n ≤ 65 → 64 < n → 64 < length whole → Grown whole old row n
+pub grown-past : (whole : List (Key × Words)) (old row : List ℕ) (n : ℕ) → length old ≡ 320 → length row ≡ 320 → n ≤ 65
+    → 64 < n → 64 < length whole → Grown whole old row n
 grown-past whole old row n s z few h more = record {
   most = few;
   held = λ l. absurd (never l);
@@ -166,11 +195,13 @@ module _ (jumps falls : Side) (cost : ℕ) (source : List ℕ) (many : ℕ) wher
   tails-begin : (r : List (Key × Words)) → poured jumps falls cost (entriesFrom source 0 many) r ≡ toCome 0 r
   tails-begin r = ap (λ n. poured jumps falls cost (entriesFrom source 0 n) r) (sym (sub-zero many))
 
-  tails-turn : (i : ℕ) → i < many → (r : List (Key × Words)) → toCome i r ≡ toCome (i + 1) (pushed jumps falls cost (entryAt source i) r)
+  tails-turn : (i : ℕ) → i < many → (r : List (Key × Words)) → toCome i r ≡ toCome (i + 1)
+      (pushed jumps falls cost (entryAt source i) r)
   unfolding entriesFrom pour
   tails-turn i h r =
       ap (λ n. poured jumps falls cost (entriesFrom source i n) r) (one-less i h)
-      ∙ ap (λ j. poured jumps falls cost (entriesFrom source j (many - (i + 1))) (pushed jumps falls cost (entryAt source i) r)) (sym (add-one i))
+      ∙ ap (λ j. poured jumps falls cost (entriesFrom source j (many - (i + 1)))
+      (pushed jumps falls cost (entryAt source i) r)) (sym (add-one i))
     where
       one-less : (i : ℕ) → i < many → many - i ≡ suc (many - (i + 1))
       one-less i h = omega arith
@@ -186,25 +217,31 @@ module _ (jumps falls : Side) (cost : ℕ) (source : List ℕ) (many : ℕ) wher
   abbrev pub AtTail : (whole : List (Key × Words)) (old row : List ℕ) (held i : ℕ) → Type 0
   AtTail whole old row held i = Filling (toCome i) whole old row held
 
-  pub at-first : (row : List ℕ) (held : ℕ) → held ≤ 64 → length row ≡ 320 → AtTail (poured jumps falls cost (entriesFrom source 0 many) (entriesFrom row 0 held)) row row held 0
+  pub at-first : (row : List ℕ) (held : ℕ) → held ≤ 64 → length row ≡ 320 → AtTail
+      (poured jumps falls cost (entriesFrom source 0 many) (entriesFrom row 0 held)) row row held 0
   at-first row held few size =
       filling-same (poured jumps falls cost (entriesFrom source 0 many)) (toCome 0) _ row row held
       (filling-start (poured jumps falls cost (entriesFrom source 0 many)) row held few size) tails-begin
 
-  pub at-last : (whole : List (Key × Words)) (old row : List ℕ) (held i : ℕ) → many ≤ i → AtTail whole old row held i → Grown whole old row held
-  at-last whole old row held i h f = filling-end whole old row held (filling-same (toCome i) (λ r. r) whole old row held f (tails-end i h))
+  pub at-last : (whole : List (Key × Words)) (old row : List ℕ) (held i : ℕ) → many ≤ i → AtTail whole old row held i
+      → Grown whole old row held
+  at-last whole old row held i h f = filling-end whole old row held
+      (filling-same (toCome i) (λ r. r) whole old row held f (tails-end i h))
 
-  module _ (whole : List (Key × Words)) (old row : List ℕ) (held i : ℕ) (f : AtTail whole old row held i) (h : i < many) (new : List ℕ) (m : ℕ)
+  module _ (whole : List (Key × Words)) (old row : List ℕ) (held i : ℕ) (f : AtTail whole old row held i)
+      (h : i < many) (new : List ℕ) (m : ℕ)
       (grown : Grown (pushed jumps falls cost (entryAt source i) (entriesFrom row 0 held)) row new m) where
     pub at-next : length new ≡ 320 → m ≤ 64 → AtTail whole old new m (i + 1)
     at-next =
         filling-more (toCome i) (toCome (i + 1)) whole old row held f
-        (pushed jumps falls cost (entryAt source i)) (tails-turn i h) (pushed-grows jumps falls cost (entryAt source i)) new m grown
+        (pushed jumps falls cost (entryAt source i)) (tails-turn i h)
+        (pushed-grows jumps falls cost (entryAt source i)) new m grown
 
     pub at-over : 64 < m → 64 < length whole
     at-over =
         filling-over (toCome i) (toCome (i + 1)) whole old row held f
-        (pushed jumps falls cost (entryAt source i)) (tails-turn i h) (pushed-grows jumps falls cost (entryAt source i)) new m grown
+        (pushed jumps falls cost (entryAt source i)) (tails-turn i h)
+        (pushed-grows jumps falls cost (entryAt source i)) new m grown
         (poured-grows jumps falls cost (entriesFrom source (i + 1) (many - (i + 1))))
 
 module _ (plan : List ℕ) (b : ℕ) (tails : ℕ → List (Key × Words)) where
@@ -213,9 +250,11 @@ module _ (plan : List ℕ) (b : ℕ) (tails : ℕ → List (Key × Words)) where
   unfolding leftFrom
   ways-end way low high r = let e : way ≡ 3 = omega arith in rw e refl
 
-  left-step : (way : ℕ) → IsWay way → (r : List (Key × Words)) → leftFrom plan b tails way r ≡ leftFrom plan b tails (way + 1) (pouredBy plan b way (tails way) r)
+  left-step : (way : ℕ) → IsWay way → (r : List (Key × Words)) → leftFrom plan b tails way r ≡ leftFrom plan b tails
+      (way + 1) (pouredBy plan b way (tails way) r)
   unfolding leftFrom pouredBy
-  left-step way (low, high) r = split (eqb way 1) (λ q. one (eqb-true way 1 q)) (λ q. let d = eqb-false way 1 q in two (omega arith))
+  left-step way (low, high) r = split (eqb way 1) (λ q. one (eqb-true way 1 q))
+      (λ q. let d = eqb-false way 1 q in two (omega arith))
     where
       one : way ≡ 1 → leftFrom plan b tails way r ≡ leftFrom plan b tails (way + 1) (pouredBy plan b way (tails way) r)
       one e = rw e refl
@@ -224,32 +263,42 @@ module _ (plan : List ℕ) (b : ℕ) (tails : ℕ → List (Key × Words)) where
       two e = rw e refl
 
   -- one way's tails, by the words that the code has of it
-  module _ (way cost : ℕ) (jumps falls : Side) (l : List (Key × Words)) (j-is : jumps ≡ sideOf plan b way 1) (f-is : falls ≡ sideOf plan b way 2) (c-is : cost ≡ costAt plan b way)
+  module _ (way cost : ℕ) (jumps falls : Side) (l : List (Key × Words)) (j-is : jumps ≡ sideOf plan b way 1)
+      (f-is : falls ≡ sideOf plan b way 2) (c-is : cost ≡ costAt plan b way)
       (l-is : l ≡ tails way) (v : IsWay way) where
-    way-turn : (r : List (Key × Words)) → leftFrom plan b tails way r ≡ leftFrom plan b tails (way + 1) (poured jumps falls cost l r)
+    way-turn : (r : List (Key × Words)) → leftFrom plan b tails way r ≡ leftFrom plan b tails (way + 1)
+        (poured jumps falls cost l r)
     unfolding pouredBy
-    way-turn r = left-step way v r ∙ ap (leftFrom plan b tails (way + 1)) (λ i. poured (sym j-is i) (sym f-is i) (sym c-is i) (sym l-is i) r)
+    way-turn r = left-step way v r ∙ ap (leftFrom plan b tails (way + 1))
+        (λ i. poured (sym j-is i) (sym f-is i) (sym c-is i) (sym l-is i) r)
 
     -- the row with the ways from this one on to come, and the row with this way's tails, made of it
-    module _ (whole : List (Key × Words)) (old row : List ℕ) (held : ℕ) (f : Filling (leftFrom plan b tails way) whole old row held) where
-      pub way-next : (new : List ℕ) (m : ℕ) → Grown (poured jumps falls cost l (entriesFrom row 0 held)) row new m → length new ≡ 320 → m ≤ 64
+    module _ (whole : List (Key × Words)) (old row : List ℕ) (held : ℕ)
+        (f : Filling (leftFrom plan b tails way) whole old row held) where
+      pub way-next : (new : List ℕ) (m : ℕ) → Grown (poured jumps falls cost l (entriesFrom row 0 held)) row new m
+          → length new ≡ 320 → m ≤ 64
           → Filling (leftFrom plan b tails (way + 1)) whole old new m
       way-next new m grown =
-          filling-more (leftFrom plan b tails way) (leftFrom plan b tails (way + 1)) whole old row held f (poured jumps falls cost l) way-turn (poured-grows jumps falls cost l) new m grown
+          filling-more (leftFrom plan b tails way) (leftFrom plan b tails (way + 1)) whole old row held f
+          (poured jumps falls cost l) way-turn (poured-grows jumps falls cost l) new m grown
 
       pub way-over : 64 < length (poured jumps falls cost l (entriesFrom row 0 held)) → 64 < length whole
       way-over h =
-          let e : length (leftFrom plan b tails (way + 1) (poured jumps falls cost l (entriesFrom row 0 held))) ≡ length whole =
+          let e : length (leftFrom plan b tails (way + 1) (poured jumps falls cost l (entriesFrom row 0 held)))
+          ≡ length whole =
           ap length (sym (way-turn (entriesFrom row 0 held)) ∙ f .left) in
           omega (arith, e, left-grows plan b tails (way + 1) (poured jumps falls cost l (entriesFrom row 0 held)))
 
 -- ---- one entry
 
-module _ (jumps falls : Side) (cost : ℕ) (e : Key × Words) (r : List (Key × Words)) (j f : ℕ) (j-is : j ≡ hitsOf jumps (e .0 .0)) (f-is : f ≡ hitsOf falls (e .0 .1)) where
+module _ (jumps falls : Side) (cost : ℕ) (e : Key × Words) (r : List (Key × Words)) (j f : ℕ)
+    (j-is : j ≡ hitsOf jumps (e .0 .0)) (f-is : f ≡ hitsOf falls (e .0 .1)) where
   pub pushed-dropped : (bitOr j f ≡ 0 → ⊥) → pushed jumps falls cost e r ≡ r
-  pushed-dropped h = rw (ne-eqb (bitOr (hitsOf jumps (e .0 .0)) (hitsOf falls (e .0 .1))) 0 (λ z. h (ap₂ bitOr j-is f-is ∙ z)))
+  pushed-dropped h = rw (ne-eqb (bitOr (hitsOf jumps (e .0 .0)) (hitsOf falls (e .0 .1))) 0
+      (λ z. h (ap₂ bitOr j-is f-is ∙ z)))
 
   pub pushed-kept : (oj of : ℕ) → oj ≡ openedOf jumps (e .0 .0) → of ≡ openedOf falls (e .0 .1) → bitOr j f ≡ 0
-      → pushed jumps falls cost e r ≡ inserted (entryOf oj of (cost + e .1 .0) (bitOr (e .1 .1 .0) (jumps .left)) (bitOr (e .1 .1 .1) (falls .left))) r
+      → pushed jumps falls cost e r ≡ inserted (entryOf oj of (cost + e .1 .0) (bitOr (e .1 .1 .0) (jumps .left))
+      (bitOr (e .1 .1 .1) (falls .left))) r
   pushed-kept oj of p q h =
       rw (eq-eqb (bitOr (hitsOf jumps (e .0 .0)) (hitsOf falls (e .0 .1))) 0 (sym (ap₂ bitOr j-is f-is) ∙ h), p, q)

@@ -1,7 +1,7 @@
--- A step in front of a tail, on the words of a plan: it is the theory's backward machine (`step-key`), and what an entry keeps of the longer tail is
+-- A step in front of a tail, on the words of a plan: it is the theory's backward machine (`step-key`), and what an
+-- entry keeps of the longer tail is
 -- the theory's (`step-words`). Rests on theory's Plan, Edges and Backward.
 use mathlib.Core.Path.{_≡_, refl, sym, ap, ap₂, _∙_}
-use mathlib.Core.Logic.{_⊎_, inl, inr}
 use mathlib.Core.Bool.{Bool, true, false, not, cond, _||_, _&&_, and-true, and-false, and-assoc}
 use mathlib.Core.List.{List}
 use mathlib.Core.Option.{Option, none, some}
@@ -12,12 +12,12 @@ use borrow.Author.Tests.{ne-eqb}
 use lib.Bits.{bitAnd, bitOr, or-zero-r, or-lt, and-le-l}
 use lib.Pow.{pow-mono}
 use lib.Dec.{eqb, lit<}
-use lib.ListN.{length, getD}
+use lib.ListN.{getD}
 use Rattle.laws.specs.Terms.{bit}
 use Rattle.laws.specs.Tests.{eqb-swap}
 use Rattle.laws.specs.Sets.{bit-none, bit-beyond, bit-pow, bit-and, bit-or, bit-and-not, shl-one}
 use Rattle.form.specs.declared.Body.{Body}
-use Rattle.form.specs.Conflict.{Edge, Sound, block, condition, isTest, touches, opposes, denies, same, listed, conflicts}
+use Rattle.form.specs.Conflict.{Sound, block, condition, isTest, touches, opposes, denies, same, listed, conflicts}
 use Rattle.theory.specs.Row.{Key}
 use Rattle.theory.specs.SweepWords.{Words, growWords}
 use Rattle.theory.specs.Backward.{stepBack, withOwn, drops, opened}
@@ -47,7 +47,8 @@ openedOf s edges = bitAnd (bitOr edges (s .own)) (s .live)
 
 -- the key of the longer tail, or none where the step conflicts
 abbrev pub stepKey : (jumps falls : Side) → Key → Option Key
-stepKey jumps falls k = cond (not (eqb (bitOr (hitsOf jumps (k .0)) (hitsOf falls (k .1))) 0)) none (some (openedOf jumps (k .0), openedOf falls (k .1)))
+stepKey jumps falls k = cond (not (eqb (bitOr (hitsOf jumps (k .0)) (hitsOf falls (k .1))) 0)) none
+    (some (openedOf jumps (k .0), openedOf falls (k .1)))
 
 -- what is kept of the longer tail
 abbrev pub stepWords : (jumps falls : Side) (cost : ℕ) → Words → Words
@@ -67,7 +68,8 @@ listed-only false t w h = sym (and-false (not w))
 listed-only true t w h = rw (h refl) (sym (and-true (not w)))
 
 module _ (body : Body) (g : Sound body) (plan : List ℕ) (fits : (k : ℕ) → getD plan k 0 < 2 ^ 64)
-    (cost : ℕ → ℕ → ℕ) (planned : Planned body cost plan) (b way side : ℕ) (inside : b < body .count) (v : IsWay way) (u : IsWay side) where
+    (cost : ℕ → ℕ → ℕ) (planned : Planned body cost plan) (b way side : ℕ) (inside : b < body .count) (v : IsWay way)
+    (u : IsWay side) where
   abbrev words : Side
   words = sideOf plan b way side
 
@@ -95,12 +97,14 @@ module _ (body : Body) (g : Sound body) (plan : List ℕ) (fits : (k : ℕ) → 
       by true = one-bit (isTest body b) k ∙ ap (λ d. isTest body b && d) (sym (and-true (eqb b k)))
       by false = bit-none k ∙ sym (ap (λ d. isTest body b && d) (and-false (eqb b k)) ∙ and-false (isTest body b))
 
-  pub live-bit : (k : ℕ) → k < body .count → bit (words .live) k ≡ (not (touches body b (condition body (k, side) .variable)) && listed (conflicts body) b (k, side))
+  pub live-bit : (k : ℕ) → k < body .count → bit (words .live) k ≡
+      (not (touches body b (condition body (k, side) .variable)) && listed (conflicts body) b (k, side))
   unfolding sideOf condition
   live-bit k h =
       bit-and-not 64 (listedAt plan b side) (touchedAt plan b) k (fits _) (fits _)
       ∙ ap₂ (λ l t. l && not t) (planned .listed-are b k side u inside h) (planned .touched b k inside h)
-      ∙ listed-only (listed (conflicts body) b (k, side)) (isTest body k) (touches body b (block body k .variable)) (listing body (g .onward) .tests b (k, side))
+      ∙ listed-only (listed (conflicts body) b (k, side)) (isTest body k) (touches body b (block body k .variable))
+      (listing body (g .onward) .tests b (k, side))
 
   pub left-is : words .left ≡ cond (eqb way side) (2 ^ b) 0
   unfolding sideOf
@@ -120,16 +124,19 @@ module _ (body : Body) (g : Sound body) (plan : List ℕ) (fits : (k : ℕ) → 
     small = lt-of-lt-of-le few (pow-mono (g .few))
 
     own-beyond : (k : ℕ) → body .count ≤ k → bit (words .own) k ≡ false
-    own-beyond k h = own-bit k ∙ ap (λ c. isTest body b && (c && eqb way side)) (ne-eqb b k (λ q. omega arith)) ∙ and-false (isTest body b)
+    own-beyond k h = own-bit k ∙ ap (λ c. isTest body b && (c && eqb way side)) (ne-eqb b k (λ q. omega arith))
+        ∙ and-false (isTest body b)
 
     with-own-beyond : (k : ℕ) → body .count ≤ k → bit (bitOr edges (words .own)) k ≡ false
     with-own-beyond k h = bit-or edges (words .own) k ∙ ap₂ _||_ (bit-beyond (body .count) k few h) (own-beyond k h)
 
-    with-own-bit : (k : ℕ) → bit (bitOr edges (words .own)) k ≡ (bit edges k || isTest body b && same (b, way) (k, side))
+    with-own-bit : (k : ℕ) → bit (bitOr edges (words .own)) k ≡
+        (bit edges k || isTest body b && same (b, way) (k, side))
     with-own-bit k = bit-or edges (words .own) k ∙ ap (λ c. bit edges k || c) (own-bit k)
 
     pub hits-bit : (k : ℕ) → k < body .count
-        → bit (hitsOf words edges) k ≡ (bit edges k && opposes body (b, way) (k, side) || (bit edges k || isTest body b && same (b, way) (k, side)) && denies body b (k, side))
+        → bit (hitsOf words edges) k ≡ (bit edges k && opposes body (b, way) (k, side) ||
+        (bit edges k || isTest body b && same (b, way) (k, side)) && denies body b (k, side))
     hits-bit k h =
         bit-or (bitAnd edges (words .against)) (bitAnd (bitOr edges (words .own)) (words .denied)) k
         ∙ ap₂ _||_ (bit-and edges (words .against) k ∙ ap (λ c. bit edges k && c) (against-bit k h))
@@ -138,15 +145,21 @@ module _ (body : Body) (g : Sound body) (plan : List ℕ) (fits : (k : ℕ) → 
     pub hits-beyond : (k : ℕ) → body .count ≤ k → bit (hitsOf words edges) k ≡ false
     hits-beyond k h =
         bit-or (bitAnd edges (words .against)) (bitAnd (bitOr edges (words .own)) (words .denied)) k
-        ∙ ap₂ _||_ (bit-and edges (words .against) k ∙ ap (λ c. c && bit (words .against) k) (bit-beyond (body .count) k few h))
-        (bit-and (bitOr edges (words .own)) (words .denied) k ∙ ap (λ c. c && bit (words .denied) k) (with-own-beyond k h))
+        ∙ ap₂ _||_ (bit-and edges (words .against) k ∙ ap (λ c. c && bit (words .against) k)
+        (bit-beyond (body .count) k few h))
+        (bit-and (bitOr edges (words .own)) (words .denied) k ∙ ap (λ c. c && bit (words .denied) k)
+        (with-own-beyond k h))
 
     pub opened-bit : (k : ℕ) → k < body .count
-        → bit (openedOf words edges) k ≡ ((bit edges k || isTest body b && same (b, way) (k, side)) && not (touches body b (condition body (k, side) .variable)) && listed (conflicts body) b (k, side))
-    opened-bit k h = bit-and (bitOr edges (words .own)) (words .live) k ∙ ap₂ _&&_ (with-own-bit k) (live-bit k h) ∙ sym (and-assoc (bit edges k || isTest body b && same (b, way) (k, side)) (not (touches body b (condition body (k, side) .variable))) (listed (conflicts body) b (k, side)))
+        → bit (openedOf words edges) k ≡ ((bit edges k || isTest body b && same (b, way) (k, side)) && not
+        (touches body b (condition body (k, side) .variable)) && listed (conflicts body) b (k, side))
+    opened-bit k h = bit-and (bitOr edges (words .own)) (words .live) k ∙ ap₂ _&&_ (with-own-bit k) (live-bit k h)
+        ∙ sym (and-assoc (bit edges k || isTest body b && same (b, way) (k, side))
+        (not (touches body b (condition body (k, side) .variable))) (listed (conflicts body) b (k, side)))
 
     pub opened-beyond : (k : ℕ) → body .count ≤ k → bit (openedOf words edges) k ≡ false
-    opened-beyond k h = bit-and (bitOr edges (words .own)) (words .live) k ∙ ap (λ c. c && bit (words .live) k) (with-own-beyond k h)
+    opened-beyond k h = bit-and (bitOr edges (words .own)) (words .live) k ∙ ap (λ c. c && bit (words .live) k)
+        (with-own-beyond k h)
 
     own-lt : words .own < 2 ^ 64
     unfolding sideOf
@@ -161,7 +174,8 @@ module _ (body : Body) (g : Sound body) (plan : List ℕ) (fits : (k : ℕ) → 
 
     pub hits-lt : hitsOf words edges < 2 ^ 64
     hits-lt = or-lt 64 (bitAnd edges (words .against)) (bitAnd (bitOr edges (words .own)) (words .denied))
-        (lt-of-le-of-lt (and-le-l edges (words .against)) small) (lt-of-le-of-lt (and-le-l (bitOr edges (words .own)) (words .denied)) with-own-lt)
+        (lt-of-le-of-lt (and-le-l edges (words .against)) small)
+        (lt-of-le-of-lt (and-le-l (bitOr edges (words .own)) (words .denied)) with-own-lt)
 
     pub opened-lt : openedOf words edges < 2 ^ 64
     opened-lt = lt-of-le-of-lt (and-le-l (bitOr edges (words .own)) (words .live)) with-own-lt
@@ -176,17 +190,33 @@ module _ (body : Body) (g : Sound body) (plan : List ℕ) (fits : (k : ℕ) → 
   abbrev fall-side : Side
   fall-side = sideOf plan b way 2
 
-  pub step-key : (k : Key) → k .0 < 2 ^ body .count → k .1 < 2 ^ body .count → stepKey jump-side fall-side k ≡ stepBack body (conflicts body) (b, way) k
+  pub step-key : (k : Key) → k .0 < 2 ^ body .count → k .1 < 2 ^ body .count → stepKey jump-side fall-side k
+      ≡ stepBack body (conflicts body) (b, way) k
   unfolding drops opened has
   step-key k j f = ap₂ (λ c o. cond c none (some o))
-      (sym (any-edge-words (body .count) 64 (g .few) (λ e. has k e && opposes body (b, way) e || withOwn body (b, way) k e && denies body b e) (hitsOf jump-side (k .0)) (hitsOf fall-side (k .1))
-      (hits-lt body g plan fits cost planned b way 1 inside v jump (k .0) j) (hits-lt body g plan fits cost planned b way 2 inside v fall (k .1) f)
-      (hits-bit body g plan fits cost planned b way 1 inside v jump (k .0) j) (hits-bit body g plan fits cost planned b way 2 inside v fall (k .1) f)
-      (hits-beyond body g plan fits cost planned b way 1 inside v jump (k .0) j) (hits-beyond body g plan fits cost planned b way 2 inside v fall (k .1) f)))
-      (edges-words (body .count) 64 (g .few) (λ e. withOwn body (b, way) k e && not (wipes body b e) && listed (conflicts body) b e) (openedOf jump-side (k .0)) (openedOf fall-side (k .1))
-      (opened-lt body g plan fits cost planned b way 1 inside v jump (k .0) j) (opened-lt body g plan fits cost planned b way 2 inside v fall (k .1) f)
-      (opened-bit body g plan fits cost planned b way 1 inside v jump (k .0) j) (opened-bit body g plan fits cost planned b way 2 inside v fall (k .1) f)
-      (opened-beyond body g plan fits cost planned b way 1 inside v jump (k .0) j) (opened-beyond body g plan fits cost planned b way 2 inside v fall (k .1) f))
+      (sym (any-edge-words (body .count) 64 (g .few) (λ e. has k e && opposes body (b, way) e || withOwn body
+      (b, way) k e && denies body b e) (hitsOf jump-side (k .0)) (hitsOf fall-side (k .1))
+      (hits-lt body g plan fits cost planned b way 1 inside v jump (k .0) j)
+      (hits-lt body g plan fits cost planned b way 2 inside v fall (k .1) f)
+      (hits-bit body g plan fits cost planned b way 1 inside v jump (k .0) j)
+      (hits-bit body g plan fits cost planned b way 2 inside v fall (k .1) f)
+      (hits-beyond body g plan fits cost planned b way 1 inside v jump (k .0) j)
+      (hits-beyond body g plan fits cost planned b way 2 inside v fall (k .1) f)))
+      (edges-words (body .count) 64 (g .few) (λ e. withOwn body (b, way) k e && not (wipes body b e) && listed
+      (conflicts body) b e) (openedOf jump-side (k .0)) (openedOf fall-side (k .1))
+      (opened-lt body g plan fits cost planned b way 1 inside v jump (k .0) j)
+      (opened-lt body g plan fits cost planned b way 2 inside v fall (k .1) f)
+      (opened-bit body g plan fits cost planned b way 1 inside v jump (k .0) j)
+      (opened-bit body g plan fits cost planned b way 2 inside v fall (k .1) f)
+      (opened-beyond body g plan fits cost planned b way 1 inside v jump (k .0) j)
+      (opened-beyond body g plan fits cost planned b way 2 inside v fall (k .1) f))
 
-  pub step-words : (w : ℕ) → w ≡ cost b way → (u : Words) → stepWords jump-side fall-side w u ≡ growWords cost (b, way) u
-  step-words w e u = λ i. (e i + u .0, (left-marks body g plan fits cost planned b way 1 inside v jump (u .1 .0) i, left-marks body g plan fits cost planned b way 2 inside v fall (u .1 .1) i))
+  pub step-words : (w : ℕ) → w ≡ cost b way → (u : Words) → stepWords jump-side fall-side w u ≡ growWords cost
+      (b, way) u
+  step-words w e u = λ i. (
+    e i + u .0,
+    (
+      left-marks body g plan fits cost planned b way 1 inside v jump (u .1 .0) i,
+      left-marks body g plan fits cost planned b way 2 inside v fall (u .1 .1) i,
+    ),
+  )

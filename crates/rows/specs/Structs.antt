@@ -14,7 +14,11 @@ abbrev pub tupleOf : Entry → Key × Words
 tupleOf e = ((e .jumps, e .falls), wordsIn (e .way))
 
 abbrev pub structOf : Key × Words → Entry
-structOf e = record { jumps = e .0 .0; falls = e .0 .1; way = record { weight = e .1 .0; jumped = e .1 .1 .0; fallen = e .1 .1 .1 } }
+structOf e = record {
+  jumps = e .0 .0;
+  falls = e .0 .1;
+  way = record { weight = e .1 .0; jumped = e .1 .1 .0; fallen = e .1 .1 .1 };
+}
 
 -- entry i of the words
 abbrev pub structAt : List ℕ → ℕ → Entry

@@ -1,4 +1,5 @@
--- The sweep's answer, after document 01, 'Sweep' and 'Refusal numbers', with the lent table of entries after it. Trusted: definitions only. Rests on plan's Owed and on theory's
+-- The sweep's answer, after document 01, 'Sweep' and 'Refusal numbers', with the lent table of entries after it.
+-- Trusted: definitions only. Rests on plan's Owed and on theory's
 -- Route (the first conflict-free route of the preferred weight, its bytes) and Row (rows, kept, crowded).
 use mathlib.Core.Bool.{cond}
 use mathlib.Core.List.{List, _++_, map}
@@ -18,7 +19,8 @@ use Rattle.rows.specs.declared.Entry.{Entry}
 use Rattle.sweep.specs.declared.SweepAnswer.{SweepAnswer}
 use Rattle.sweep.specs.declared.SweepAnswer.the-variants.{Routed, Refused}
 
--- ---- an answer in document 01's numbers: number 0 is no refusal; of a refusal every other number but the place is zero
+-- ---- an answer in document 01's numbers: number 0 is no refusal; of a refusal every other number but the place is
+-- zero
 
 pub record Values : Type 0 where
   pub number : ℕ
@@ -32,7 +34,14 @@ abbrev pub refusal : (number place : ℕ) → Values
 refusal number place = record { number = number; place = place; iterations = 0; weight = 0; bound = 0; kept = 0 }
 
 abbrev pub said : SweepAnswer → Values
-said (Routed iterations weight bound kept) = record { number = 0; place = 0; iterations = iterations; weight = weight; bound = bound; kept = kept }
+said (Routed iterations weight bound kept) = record {
+  number = 0;
+  place = 0;
+  iterations = iterations;
+  weight = weight;
+  bound = bound;
+  kept = kept;
+}
 said (Refused number place) = refusal number place
 
 -- ---- the answer, and what the lent bytes and the lent table hold after it
@@ -51,15 +60,21 @@ refused route table number place = record { values = refusal number place; route
 
 -- A row's entry as the table has it.
 abbrev pub entryFrom : theory.Entry → Entry
-entryFrom e = record { jumps = e .jumps; falls = e .falls; way = record { weight = e .weight; jumped = e .jumped; fallen = e .fallen } }
+entryFrom e = record {
+  jumps = e .jumps;
+  falls = e .falls;
+  way = record { weight = e .weight; jumped = e .jumped; fallen = e .fallen };
+}
 
 abbrev pub noEntry : Entry
 noEntry = entryFrom theory.noEntry
 
--- The lent table with the rows of the blocks from `from` on, of `count` blocks: row b has 64 entries, from entry 64 b on. Rows of lower blocks and all entries past the last
+-- The lent table with the rows of the blocks from `from` on, of `count` blocks: row b has 64 entries, from entry 64 b
+-- on. Rows of lower blocks and all entries past the last
 -- row are unchanged.
 unfoldable pub tableWith : (rows : ℕ → List theory.Entry) → (from count : ℕ) → (lent : List Entry) → List Entry
-tableWith rows from count lent = take (64 * from) lent ++ each (range from (count - from)) (λ b. map entryFrom (filled (rows b))) ++ drop (64 * count) lent
+tableWith rows from count lent = take (64 * from) lent ++ each (range from (count - from))
+    (λ b. map entryFrom (filled (rows b))) ++ drop (64 * count) lent
 
 -- ---- what is owed of a body with a loop count, on a side
 
@@ -68,11 +83,19 @@ module _ (body : Body) (side : Side) where
   rowsOn = row body (conflicts body) (side .cost) (side .prefers)
 
   module _ (route : List ℕ) (table : List Entry) (count : ℕ) where
-    -- All rows are complete. 43 where there is no conflict-free route. The route's bytes stand first; those past them are unchanged.
+    -- All rows are complete. 43 where there is no conflict-free route. The route's bytes stand first; those past them
+    -- are unchanged.
     abbrev pub routed : Option (ℕ × Path) → Outcome
     routed none = record { values = refusal 43 0; route = route; table = tableWith rowsOn 0 (body .count) table }
     routed (some v) = record {
-      values = record { number = 0; place = 0; iterations = count; weight = v .0; bound = boundOf count (v .0); kept = kept body (side .cost) (side .prefers) };
+      values = record {
+        number = 0;
+        place = 0;
+        iterations = count;
+        weight = v .0;
+        bound = boundOf count (v .0);
+        kept = kept body (side .cost) (side .prefers);
+      };
       route = routeBytes body (v .1) ++ drop (body .count) route;
       table = tableWith rowsOn 0 (body .count) table;
     }
@@ -80,18 +103,26 @@ module _ (body : Body) (side : Side) where
     -- 40 with the highest crowded block: the rows above it are complete, it and the lower ones are unchanged.
     abbrev pub swept : Option ℕ → Outcome
     swept none = routed (routeOn body side)
-    swept (some b) = record { values = refusal 40 b; route = route; table = tableWith rowsOn (suc b) (body .count) table }
+    swept (some b) = record {
+      values = refusal 40 b;
+      route = route;
+      table = tableWith rowsOn (suc b)
+          (body .count) table;
+    }
 
-    -- 42 with the bytes needed, then 44 with the entries needed, for a table under 64 entries a block; then 40, and 43 last.
+    -- 42 with the bytes needed, then 44 with the entries needed, for a table under 64 entries a block; then 40, and 43
+    -- last.
     abbrev pub sweepOutcome : Outcome
     sweepOutcome =
         cond (ltb (length route) (body .count)) (refused route table 42 (body .count))
-        (cond (ltb (length table) (64 * body .count)) (refused route table 44 (64 * body .count)) (swept (crowded body (side .cost) (side .prefers))))
+        (cond (ltb (length table) (64 * body .count)) (refused route table 44 (64 * body .count))
+        (swept (crowded body (side .cost) (side .prefers))))
 
 -- ---- what is owed of any bytes: the dearest iteration
 
 abbrev pub SweepOwed : (form route : List ℕ) → (table : List Entry) → Outcome → Type 0
-SweepOwed form route table outcome = Owed form (refused route table) (sweepOutcome (bodyOf form) (dearest (bodyOf form)) route table) outcome
+SweepOwed form route table outcome = Owed form (refused route table)
+    (sweepOutcome (bodyOf form) (dearest (bodyOf form)) route table) outcome
 
 -- The same with a table of its own, of 1,536 zero entries, whatever that holds afterwards.
 abbrev pub ownTable : List Entry

@@ -1,16 +1,17 @@
--- The drive of the sweep: where the table, the lengths and kept stand between two blocks, for any body and costs with this plan; the start, one turn and the end. Rests on Turn
+-- The drive of the sweep: where the table, the lengths and kept stand between two blocks, for any body and costs with
+-- this plan; the start, one turn and the end. Rests on Turn
 -- and Table.
 use mathlib.Core.Path.{_≡_, refl, sym, ap, ap₂, subst, _∙_}
 use mathlib.Core.Bool.{cond}
 use mathlib.Core.List.{List, [], map}
 use mathlib.Core.Option.{Option, none, some}
-use Prim.Native.Nat.{ℕ, zero, suc, max, _+_, _*_, _-_, _^_, _≤_, _<_}
-use native.Mathlib.Nat.{zero-add, le-trans, max-zero, zero-max}
+use Prim.Native.Nat.{ℕ, suc, max, _+_, _*_, _-_, _^_, _≤_, _<_}
+use native.Mathlib.Nat.{zero-add, max-zero, zero-max}
 use native.Mathlib.Omega.{arith}
 use borrow.Author.Tests.{eqb-true, eqb-false, lt-ltb, le-ltb, ltb-true, ltb-false}
 use lib.Dec.{eqb, ltb}
 use lib.ListN.{length, getD, set, replicate, length-set, length-replicate, getD-replicate, List·getD-eq-default}
-use lib.Seq.{paste, length-paste, getD-set-same, getD-set-other}
+use lib.Seq.{paste, getD-set-same, getD-set-other}
 use Rattle.laws.specs.Terms.{Mem, heavier}
 use Rattle.laws.specs.Tests.{split}
 use Rattle.form.specs.declared.Body.{Body}
@@ -20,10 +21,10 @@ use Rattle.theory.specs.Row as theory
 use Rattle.theory.specs.Row.{Key, filled, longest, highest}
 use Rattle.theory.specs.SweepWords as words
 use Rattle.theory.specs.SweepWords.{Words, row-words, row-length}
-use Rattle.theory.specs.Range.{Range, up-past, upTo}
+use Rattle.theory.specs.Range.{Range, up-past}
 use Rattle.theory.specs.Plan.{costAt, Planned, PlanOf, costLimit}
 use Rattle.rows.specs.declared.Entry.{Entry}
-use Rattle.rows.specs.Entries.{entriesFrom, entries-length}
+use Rattle.rows.specs.Entries.{entries-length}
 use Rattle.rows.specs.Structs.{tupleOf, structAt}
 use Rattle.rows.specs.Begun.{Holds}
 use Rattle.sweep.specs.declared.Swept.{Swept}
@@ -45,12 +46,20 @@ abbrev pub noLengths : List ℕ
 noLengths = replicate 64 0
 
 no-length : (t : ℕ) → getD noLengths t 0 ≡ 0
-no-length t = split (ltb t 64) (λ h. getD-replicate 64 t 0 0 (ltb-true t 64 h)) (λ h. List·getD-eq-default noLengths 0 {n = t} (omega (arith, ltb-false t 64 h, length-replicate {A = ℕ} 64 0)))
+no-length t = split (ltb t 64) (λ h. getD-replicate 64 t 0 0 (ltb-true t 64 h))
+    (λ h. List·getD-eq-default noLengths 0 {n = t} (omega (arith, ltb-false t 64 h, length-replicate {A = ℕ} 64 0)))
 
 pub lengths-none : (count : ℕ) → Lengths count count noLengths
-lengths-none count = record { size = length-replicate {A = ℕ} 64 0; few = λ t. omega (arith, no-length t); low = λ t h. no-length t; high = λ t h. no-length t }
+lengths-none count = record {
+  size = length-replicate {A = ℕ} 64 0;
+  few = λ t. omega (arith, no-length t);
+  low = λ t h.
+      no-length t;
+  high = λ t h. no-length t;
+}
 
-pub lengths-more : (count b n : ℕ) (lengths : List ℕ) → b < count → count ≤ 64 → n ≤ 64 → Lengths count (suc b) lengths → Lengths count b (set lengths b n)
+pub lengths-more : (count b n : ℕ) (lengths : List ℕ) → b < count → count ≤ 64 → n ≤ 64 → Lengths count (suc b) lengths
+    → Lengths count b (set lengths b n)
 lengths-more count b n lengths h few l w = record {
   size = length-set lengths b n ∙ w .size;
   few = λ t. split (eqb t b)
@@ -79,14 +88,16 @@ abbrev pub highestCrowd : Body → (cost : ℕ → ℕ → ℕ) → ℕ → Opti
 highestCrowd body cost = highest (rowsOn body (heaviestBy cost))
 
 -- the rows from b on are complete; what they say of kept and of the highest crowded block
-pub record Down (body : Body) (cost : ℕ → ℕ → ℕ) (lent table : List Entry) (lengths : List ℕ) (b kept found : ℕ) : Type 0 where
+pub record Down (body : Body) (cost : ℕ → ℕ → ℕ) (lent table : List Entry) (lengths : List ℕ)
+    (b kept found : ℕ) : Type 0 where
   pub rows : (t : ℕ) → b ≤ t → t < body .count → rowIn table lengths t ≡ rowOf body cost t
   pub table-is : table ≡ tableWith (rowsOn body (heaviestBy cost)) b (body .count) lent
   pub kept-is : max kept (longestRow body cost b) ≡ longestRow body cost (body .count)
   pub crowd-is : highestCrowd body cost b ≡ highestCrowd body cost (body .count)
   pub found-is : b < body .count → found ≡ length (rowOf body cost b)
 
-down-start : (body : Body) (cost : ℕ → ℕ → ℕ) (lent : List Entry) (lengths : List ℕ) → Down body cost lent lent lengths (body .count) 0 0
+down-start : (body : Body) (cost : ℕ → ℕ → ℕ) (lent : List Entry) (lengths : List ℕ) → Down body cost lent lent lengths
+    (body .count) 0 0
 down-start body cost lent lengths = record {
   rows = λ t h k. absurd (never t h k);
   table-is = sym (table-none (rowsOn body (heaviestBy cost)) (body .count) lent);
@@ -108,12 +119,15 @@ longest-suc : (rows : ℕ → List theory.Entry) (b : ℕ) → longest rows (suc
 unfolding longest
 longest-suc rows b = refl
 
-highest-suc : (rows : ℕ → List theory.Entry) (b : ℕ) → highest rows (suc b) ≡ cond (ltb 64 (length (rows b))) (some b) (highest rows b)
+highest-suc : (rows : ℕ → List theory.Entry) (b : ℕ) → highest rows (suc b) ≡ cond (ltb 64 (length (rows b))) (some b)
+    (highest rows b)
 unfolding highest
 highest-suc rows b = refl
 
-module _ (body : Body) (cost : ℕ → ℕ → ℕ) (lent table : List Entry) (lengths : List ℕ) (b kept found : ℕ) (inside : b < body .count) (few : body .count ≤ 64) (room : 64 * body .count ≤ length lent)
-    (same : length table ≡ length lent) (sizes : Lengths (body .count) (suc b) lengths) (d : Down body cost lent table lengths (suc b) kept found) where
+module _ (body : Body) (cost : ℕ → ℕ → ℕ) (lent table : List Entry) (lengths : List ℕ) (b kept found : ℕ)
+    (inside : b < body .count) (few : body .count ≤ 64) (room : 64 * body .count ≤ length lent)
+    (same : length table ≡ length lent) (sizes : Lengths (body .count) (suc b) lengths)
+    (d : Down body cost lent table lengths (suc b) kept found) where
   row-size : length (rowsOn body (heaviestBy cost) b) ≡ length (rowOf body cost b)
   row-size = row-length body (conflicts body) cost heavier b
 
@@ -136,14 +150,17 @@ module _ (body : Body) (cost : ℕ → ℕ → ℕ) (lent table : List Entry) (l
         ap (entriesIn new (64 * b)) (getD-set-same lengths b n 0 (omega (arith, sizes .size)))
         ∙ sym (in-words (s .row) new n 0 (64 * b) (λ k l.
         ap (λ i. tupleOf (structAt (s .row) i)) (zero-add k)
-        ∙ ap tupleOf (sym (ap (λ t. getD t (64 * b + k) noEntry) (s .table-is) ∙ paste-in noEntry table (structsOf (s .row)) (64 * b) 64 in-table (structs-length (s .row)) k (omega (arith, h .few)) ∙ structs-at (s .row) k (omega (arith, h .few))))))
+        ∙ ap tupleOf (sym (ap (λ t. getD t (64 * b + k) noEntry) (s .table-is) ∙ paste-in noEntry table
+        (structsOf (s .row)) (64 * b) 64 in-table (structs-length (s .row)) k (omega (arith, h .few)) ∙ structs-at
+        (s .row) k (omega (arith, h .few))))))
         ∙ h .held
 
     other-row : (t : ℕ) → suc b ≤ t → rowIn new news t ≡ rowIn table lengths t
     other-row t k =
         ap (entriesIn new (64 * t)) (getD-set-other lengths b t n 0 (λ q. omega arith))
         ∙ in-alike new table (getD lengths t 0) (64 * t) (64 * t)
-        (λ i l. ap (λ w. getD w (64 * t + i) noEntry) (s .table-is) ∙ paste-high noEntry table (structsOf (s .row)) (64 * b) 64 in-table (structs-length (s .row)) (64 * t + i) (omega arith))
+        (λ i l. ap (λ w. getD w (64 * t + i) noEntry) (s .table-is) ∙ paste-high noEntry table (structsOf (s .row))
+        (64 * b) 64 in-table (structs-length (s .row)) (64 * t + i) (omega arith))
 
     down-more : Down body cost lent new news b (max kept n) n
     down-more = record {
@@ -153,15 +170,18 @@ module _ (body : Body) (cost : ℕ → ℕ → ℕ) (lent table : List Entry) (l
       table-is =
           s .table-is
           ∙ ap (λ t. paste t (64 * b) (structsOf (s .row)) 64) (d .table-is)
-          ∙ table-more (rowsOn body (heaviestBy cost)) (body .count) lent b (structsOf (s .row)) inside room (structs-length (s .row))
-          (row-laid (s .row) n (h .few) (h .zeros) ∙ ap (λ r. map entryFrom (filled r)) (ap (map words.entryFrom) (h .held) ∙ sym (row-words body (conflicts body) cost heavier b)));
+          ∙ table-more (rowsOn body (heaviestBy cost)) (body .count) lent b (structsOf (s .row)) inside room
+          (structs-length (s .row))
+          (row-laid (s .row) n (h .few) (h .zeros) ∙ ap (λ r. map entryFrom (filled r))
+          (ap (map words.entryFrom) (h .held) ∙ sym (row-words body (conflicts body) cost heavier b)));
       kept-is =
           max-three kept n (longestRow body cost b)
           ∙ ap (λ m. max kept (max m (longestRow body cost b))) (n-is ∙ sym row-size)
           ∙ ap (max kept) (sym (longest-suc (rowsOn body (heaviestBy cost)) b))
           ∙ d .kept-is;
       crowd-is =
-          sym (highest-suc (rowsOn body (heaviestBy cost)) b ∙ ap (λ c. cond c (some b) (highestCrowd body cost b)) (le-ltb 64 (length (rowsOn body (heaviestBy cost) b)) (omega (arith, row-size, n-is, h .few))))
+          sym (highest-suc (rowsOn body (heaviestBy cost)) b ∙ ap (λ c. cond c (some b) (highestCrowd body cost b))
+          (le-ltb 64 (length (rowsOn body (heaviestBy cost) b)) (omega (arith, row-size, n-is, h .few))))
           ∙ d .crowd-is;
       found-is = λ k. n-is;
     }
@@ -171,20 +191,29 @@ module _ (body : Body) (cost : ℕ → ℕ → ℕ) (lent table : List Entry) (l
   down-over h =
       sym (d .crowd-is)
       ∙ highest-suc (rowsOn body (heaviestBy cost)) b
-      ∙ ap (λ c. cond c (some b) (highestCrowd body cost b)) (lt-ltb 64 (length (rowsOn body (heaviestBy cost) b)) (omega (arith, row-size)))
+      ∙ ap (λ c. cond c (some b) (highestCrowd body cost b))
+      (lt-ltb 64 (length (rowsOn body (heaviestBy cost) b)) (omega (arith, row-size)))
 
 -- ---- a turn, from the plan
 
 -- what a step costs, and what an entry weighs, is no more than the limit
 module _ (body : Body) (g : Sound body) (cost : ℕ → ℕ → ℕ) (range : Range (body .count) cost costLimit) where
   cost-few : (b way : ℕ) → b < body .count → cost b way ≤ costLimit
-  cost-few b way h = omega (arith, range .each b way h, up-past (range .most) b (body .count) (body .count) h (omega arith), range .all)
+  cost-few b way h = omega (
+    arith,
+    range .each b way h,
+    up-past (range .most) b (body .count) (body .count) h
+        (omega arith),
+    range .all,
+  )
 
   pub weight-few : (t : ℕ) → t < body .count → (e : Key × Words) → Mem e (rowOf body cost t) → e .1 .0 ≤ costLimit
   weight-few t h e m = omega (arith, entry-small body g cost range t h e m .weighs, range .all)
 
-module _ (body : Body) (g : Sound body) (cost : ℕ → ℕ → ℕ) (range : Range (body .count) cost costLimit) (plan : List ℕ) (fits : (k : ℕ) → getD plan k 0 < 2 ^ 64) (planned : Planned body cost plan)
-    (lent table : List Entry) (lengths : List ℕ) (b kept found : ℕ) (inside : b < body .count) (sizes : Lengths (body .count) (suc b) lengths) (d : Down body cost lent table lengths (suc b) kept found) where
+module _ (body : Body) (g : Sound body) (cost : ℕ → ℕ → ℕ) (range : Range (body .count) cost costLimit) (plan : List ℕ)
+    (fits : (k : ℕ) → getD plan k 0 < 2 ^ 64) (planned : Planned body cost plan)
+    (lent table : List Entry) (lengths : List ℕ) (b kept found : ℕ) (inside : b < body .count)
+    (sizes : Lengths (body .count) (suc b) lengths) (d : Down body cost lent table lengths (suc b) kept found) where
   no-row : (t : ℕ) → 64 ≤ t → rowIn table lengths t ≡ []
   unfolding entriesIn
   no-row t h = ap (entriesIn table (64 * t)) (List·getD-eq-default lengths 0 {n = t} (omega (arith, sizes .size)))
@@ -204,10 +233,12 @@ module _ (body : Body) (g : Sound body) (cost : ℕ → ℕ → ℕ) (range : Ra
       high : body .count ≤ t → ⊥
       high l = omega (arith, sizes .high t l)
 
-  turn-light : (way t i : ℕ) → i < getD lengths t 0 → costAt plan b way + getD table (64 * t + i) noEntry .way .weight < 2 ^ 64
+  turn-light : (way t i : ℕ) → i < getD lengths t 0 → costAt plan b way + getD table
+      (64 * t + i) noEntry .way .weight < 2 ^ 64
   turn-light way t i h =
       let (l, k) = some-row t i h in
-      let m = subst (Mem (tupleOf (getD table (64 * t + i) noEntry))) (d .rows t l k) (in-mem table (64 * t) (getD lengths t 0) i h) in
+      let m = subst (Mem (tupleOf (getD table (64 * t + i) noEntry))) (d .rows t l k)
+      (in-mem table (64 * t) (getD lengths t 0) i h) in
       let w = weight-few body g cost range t k (tupleOf (getD table (64 * t + i) noEntry)) m in
       omega (arith, w, planned .costs b way inside, cost-few body g cost range b way inside)
 
@@ -225,26 +256,33 @@ completeFrom (some b) = suc b
 
 pub record SweptAs (body : Body) (cost : ℕ → ℕ → ℕ) (lent table : List Entry) (answer : Swept) : Type 0 where
   pub answer-is : answer ≡ sweptOf body cost (highestCrowd body cost (body .count))
-  pub table-is : table ≡ tableWith (rowsOn body (heaviestBy cost)) (completeFrom (highestCrowd body cost (body .count))) (body .count) lent
+  pub table-is : table ≡ tableWith (rowsOn body (heaviestBy cost))
+      (completeFrom (highestCrowd body cost (body .count))) (body .count) lent
   pub first : (kept found : ℕ) → answer ≡ Rows kept found → entriesIn table 0 found ≡ rowOf body cost 0
 
 module _ (body : Body) (cost : ℕ → ℕ → ℕ) (lent table : List Entry) (lengths : List ℕ) where
-  swept-crowded : (b kept found : ℕ) → highestCrowd body cost (body .count) ≡ some b → Down body cost lent table lengths (suc b) kept found → SweptAs body cost lent table (Crowded b)
+  swept-crowded : (b kept found : ℕ) → highestCrowd body cost (body .count) ≡ some b
+      → Down body cost lent table lengths (suc b) kept found → SweptAs body cost lent table (Crowded b)
   swept-crowded b kept found e d = record {
     answer-is = sym (ap (sweptOf body cost) e);
-    table-is = d .table-is ∙ ap (λ o. tableWith (rowsOn body (heaviestBy cost)) (completeFrom o) (body .count) lent) (sym e);
+    table-is = d .table-is ∙ ap (λ o. tableWith (rowsOn body (heaviestBy cost)) (completeFrom o) (body .count) lent)
+        (sym e);
     first = λ k f q. absurd (never k f q);
   }
     where
       never : (k f : ℕ) → Crowded b ≡ Rows k f → ⊥
       never k f q = let z : _≡_ {A = ℕ} 0 1 = cc in omega arith
 
-  swept-whole : (kept found : ℕ) → 0 < body .count → Down body cost lent table lengths 0 kept found → SweptAs body cost lent table (Rows kept found)
+  swept-whole : (kept found : ℕ) → 0 < body .count → Down body cost lent table lengths 0 kept found
+      → SweptAs body cost lent table (Rows kept found)
   unfolding longest highest
   swept-whole kept found any-block d = record {
-    answer-is = ap₂ Rows (sym (max-zero kept) ∙ d .kept-is) (d .found-is any-block) ∙ ap (sweptOf body cost) (d .crowd-is);
-    table-is = d .table-is ∙ ap (λ o. tableWith (rowsOn body (heaviestBy cost)) (completeFrom o) (body .count) lent) (d .crowd-is);
-    first = λ k f q. ap (entriesIn table 0) (same k f q ∙ d .found-is any-block ∙ sym (ap length row-zero) ∙ in-length table 0 (getD lengths 0 0)) ∙ row-zero;
+    answer-is = ap₂ Rows (sym (max-zero kept) ∙ d .kept-is) (d .found-is any-block) ∙ ap (sweptOf body cost)
+        (d .crowd-is);
+    table-is = d .table-is ∙ ap (λ o. tableWith (rowsOn body (heaviestBy cost)) (completeFrom o) (body .count) lent)
+        (d .crowd-is);
+    first = λ k f q. ap (entriesIn table 0) (same k f q ∙ d .found-is any-block ∙ sym (ap length row-zero)
+        ∙ in-length table 0 (getD lengths 0 0)) ∙ row-zero;
   }
     where
       row-zero : entriesIn table 0 (getD lengths 0 0) ≡ rowOf body cost 0
@@ -256,30 +294,37 @@ module _ (body : Body) (cost : ℕ → ℕ → ℕ) (lent table : List Entry) (l
 -- ---- between two blocks
 
 pub record Sweeping (plan : List ℕ) (lent table : List Entry) (lengths : List ℕ) (count b kept found : ℕ) : Type 0 where
-  pub rows : (body : Body) (cost : ℕ → ℕ → ℕ) → Planned body cost plan → Sound body → body .count ≡ count → Down body cost lent table lengths b kept found
+  pub rows : (body : Body) (cost : ℕ → ℕ → ℕ) → Planned body cost plan → Sound body → body .count ≡ count
+      → Down body cost lent table lengths b kept found
   pub sizes : Lengths count b lengths
   pub same : length table ≡ length lent
   pub below : b ≤ count
 
 pub sweeping-start : (plan : List ℕ) (lent : List Entry) (count : ℕ) → Sweeping plan lent lent noLengths count count 0 0
 sweeping-start plan lent count = record {
-  rows = λ body cost p g e. subst (λ (n : ℕ). Down body cost lent lent noLengths n 0 0) e (down-start body cost lent noLengths);
+  rows = λ body cost p g e. subst (λ (n : ℕ). Down body cost lent lent noLengths n 0 0) e
+      (down-start body cost lent noLengths);
   sizes = lengths-none count;
   same = refl;
   below = omega arith;
 }
 
-pub sweeping-end : (plan : List ℕ) (lent table : List Entry) (lengths : List ℕ) (count b kept found : ℕ) → b ≡ 0 → Sweeping plan lent table lengths count b kept found
-    → (body : Body) (cost : ℕ → ℕ → ℕ) → Planned body cost plan → Sound body → body .count ≡ count → SweptAs body cost lent table (Rows kept found)
+pub sweeping-end : (plan : List ℕ) (lent table : List Entry) (lengths : List ℕ) (count b kept found : ℕ) → b ≡ 0
+    → Sweeping plan lent table lengths count b kept found
+    → (body : Body) (cost : ℕ → ℕ → ℕ) → Planned body cost plan → Sound body → body .count ≡ count
+    → SweptAs body cost lent table (Rows kept found)
 sweeping-end plan lent table lengths count b kept found z w body cost p g e =
-    swept-whole body cost lent table lengths kept found (g .some) (subst (λ (n : ℕ). Down body cost lent table lengths n kept found) z (w .rows body cost p g e))
+    swept-whole body cost lent table lengths kept found (g .some)
+    (subst (λ (n : ℕ). Down body cost lent table lengths n kept found) z (w .rows body cost p g e))
 
-module _ (plan : List ℕ) (fits : (k : ℕ) → getD plan k 0 < 2 ^ 64) (count : ℕ) (of : PlanOf plan count) (lent table : List Entry) (lengths : List ℕ) (room : 64 * count ≤ length lent) (b kept found : ℕ) (more : 0 < b)
+module _ (plan : List ℕ) (fits : (k : ℕ) → getD plan k 0 < 2 ^ 64) (count : ℕ) (of : PlanOf plan count)
+    (lent table : List Entry) (lengths : List ℕ) (room : 64 * count ≤ length lent) (b kept found : ℕ) (more : 0 < b)
     (w : Sweeping plan lent table lengths count b kept found) where
   next : suc (b - 1) ≡ b
   next = omega arith
 
-  module _ (body : Body) (cost : ℕ → ℕ → ℕ) (p : Planned body cost plan) (g : Sound body) (e : body .count ≡ count) where
+  module _ (body : Body) (cost : ℕ → ℕ → ℕ) (p : Planned body cost plan) (g : Sound body)
+      (e : body .count ≡ count) where
     range : Range (body .count) cost costLimit
     range = range-of plan count of body cost p e
 
@@ -287,21 +332,31 @@ module _ (plan : List ℕ) (fits : (k : ℕ) → getD plan k 0 < 2 ^ 64) (count 
     down = subst (λ (n : ℕ). Down body cost lent table lengths n kept found) (sym next) (w .rows body cost p g e)
 
     lengths-of : Lengths (body .count) (suc (b - 1)) lengths
-    lengths-of = subst (λ (n : ℕ). Lengths n (suc (b - 1)) lengths) (sym e) (subst (λ (n : ℕ). Lengths count n lengths) (sym next) (w .sizes))
+    lengths-of = subst (λ (n : ℕ). Lengths n (suc (b - 1)) lengths) (sym e)
+        (subst (λ (n : ℕ). Lengths count n lengths) (sym next) (w .sizes))
 
     inside : b - 1 < body .count
     inside = omega (arith, w .below)
 
     row-here : rowFrom plan count table lengths (b - 1) ≡ rowOf body cost (b - 1)
-    row-here = ap (λ n. rowFrom plan n table lengths (b - 1)) (sym e) ∙ turn-row body g cost range plan fits p lent table lengths (b - 1) kept found inside lengths-of down
+    row-here = ap (λ n. rowFrom plan n table lengths (b - 1)) (sym e)
+        ∙ turn-row body g cost range plan fits p lent table lengths (b - 1) kept found inside lengths-of down
 
-    light-here : (way t i : ℕ) → i < getD lengths t 0 → costAt plan (b - 1) way + getD table (64 * t + i) noEntry .way .weight < 2 ^ 64
+    light-here : (way t i : ℕ) → i < getD lengths t 0 → costAt plan (b - 1) way + getD table
+        (64 * t + i) noEntry .way .weight < 2 ^ 64
     light-here = turn-light body g cost range plan fits p lent table lengths (b - 1) kept found inside lengths-of down
 
     inside-here : (t i : ℕ) → i < getD lengths t 0 → 64 * t + i < length table
-    inside-here t i h = omega (arith, some-row body g cost range plan fits p lent table lengths (b - 1) kept found inside lengths-of down t i h .1, w .sizes .few t, w .same)
+    inside-here t i h = omega (
+      arith,
+      some-row body g cost range plan fits p lent table lengths
+          (b - 1) kept found inside lengths-of down t i h .1,
+      w .sizes .few t,
+      w .same,
+    )
 
-  pub sweeping-light : (way t i : ℕ) → i < getD lengths t 0 → costAt plan (b - 1) way + getD table (64 * t + i) noEntry .way .weight < 2 ^ 64
+  pub sweeping-light : (way t i : ℕ) → i < getD lengths t 0 → costAt plan (b - 1) way + getD table
+      (64 * t + i) noEntry .way .weight < 2 ^ 64
   sweeping-light = light-here (of .body) (of .cost) (of .planned) (of .sound) (of .size)
 
   pub sweeping-inside : (t i : ℕ) → i < getD lengths t 0 → 64 * t + i < length table
@@ -310,20 +365,28 @@ module _ (plan : List ℕ) (fits : (k : ℕ) → getD plan k 0 < 2 ^ 64) (count 
   pub count-few : count ≤ 64
   count-few = omega (arith, of .sound .few, of .size)
 
-  module _ (new : List Entry) (n : ℕ) (turned : Turned (rowFrom plan count table lengths (b - 1)) table new (b - 1) n) where
-    pub sweeping-more : n ≤ 64 → length new ≡ length table → Sweeping plan lent new (set lengths (b - 1) n) count (b - 1) (max kept n) n
+  module _ (new : List Entry) (n : ℕ) (turned : Turned (rowFrom plan count table lengths (b - 1)) table new
+      (b - 1) n) where
+    pub sweeping-more : n ≤ 64 → length new ≡ length table → Sweeping plan lent new (set lengths (b - 1) n) count
+        (b - 1) (max kept n) n
     sweeping-more few same = record {
       rows = λ body cost p g e.
-          down-more body cost lent table lengths (b - 1) kept found (inside body cost p g e) (g .few) (omega arith) (w .same) (lengths-of body cost p g e) (down body cost p g e) new n
-          (subst (λ (r : List (Key × Words)). Stored r table new (b - 1) n) (row-here body cost p g e) (turned .whole few));
-      sizes = lengths-more count (b - 1) n lengths (omega (arith, w .below)) count-few few (subst (λ (n : ℕ). Lengths count n lengths) (sym next) (w .sizes));
+          down-more body cost lent table lengths (b - 1) kept found (inside body cost p g e) (g .few) (omega arith)
+          (w .same) (lengths-of body cost p g e) (down body cost p g e) new n
+          (subst (λ (r : List (Key × Words)). Stored r table new (b - 1) n) (row-here body cost p g e)
+          (turned .whole few));
+      sizes = lengths-more count (b - 1) n lengths (omega (arith, w .below)) count-few few
+          (subst (λ (n : ℕ). Lengths count n lengths) (sym next) (w .sizes));
       same = same ∙ w .same;
       below = omega (arith, w .below);
     }
 
-    pub sweeping-crowded : 64 < n → (body : Body) (cost : ℕ → ℕ → ℕ) → Planned body cost plan → Sound body → body .count ≡ count → SweptAs body cost lent new (Crowded (b - 1))
+    pub sweeping-crowded : 64 < n → (body : Body) (cost : ℕ → ℕ → ℕ) → Planned body cost plan → Sound body
+        → body .count ≡ count → SweptAs body cost lent new (Crowded (b - 1))
     sweeping-crowded over body cost p g e =
         subst (λ (t : List Entry). SweptAs body cost lent t (Crowded (b - 1))) (sym (turned .over over .1))
         (swept-crowded body cost lent table lengths (b - 1) kept found
-        (down-over body cost lent table lengths (b - 1) kept found (inside body cost p g e) (g .few) (omega arith) (w .same) (lengths-of body cost p g e) (down body cost p g e)
-        (subst (λ (r : List (Key × Words)). 64 < length r) (row-here body cost p g e) (turned .over over .0))) (down body cost p g e))
+        (down-over body cost lent table lengths (b - 1) kept found (inside body cost p g e) (g .few) (omega arith)
+        (w .same) (lengths-of body cost p g e) (down body cost p g e)
+        (subst (λ (r : List (Key × Words)). 64 < length r) (row-here body cost p g e) (turned .over over .0)))
+        (down body cost p g e))

@@ -1,8 +1,8 @@
 -- Where the drive's code stands between two blocks (`Driven`): the start, one turn and the end. Rests on Drive.
-use mathlib.Core.Path.{_≡_, refl, sym, ap, ap₂, subst, _∙_}
+use mathlib.Core.Path.{_≡_, refl, sym, ap, subst, _∙_}
 use mathlib.Core.Bool.{Bool, true, false, cond}
 use mathlib.Core.List.{List}
-use Prim.Native.Nat.{ℕ, zero, suc, max, _+_, _*_, _-_, _^_, _≤_, _<_}
+use Prim.Native.Nat.{ℕ, max, _*_, _-_, _^_, _≤_, _<_}
 use native.Mathlib.Omega.{arith}
 use borrow.Author.Tests.{lt-ltb, le-ltb, ltb-true, ltb-false}
 use lib.Dec.{ltb}
@@ -23,15 +23,49 @@ started count = record { going = ltb 0 count; b = count; kept = 0; found = 0; le
 
 -- a row of n entries more, or a crowded one, which ends the drive
 abbrev pub following : Drive → ℕ → Drive
-following at n = cond (ltb 64 n) (record { going = false; b = at .b; kept = at .kept; found = n; lengths = at .lengths })
-    (record { going = ltb 0 (at .b - 1); b = at .b - 1; kept = max (at .kept) n; found = n; lengths = set (at .lengths) (at .b - 1) n })
+following at n = cond (ltb 64 n) (record {
+  going = false;
+  b = at .b;
+  kept = at .kept;
+  found = n;
+  lengths = at .lengths;
+})
+    (record {
+      going = ltb 0 (at .b - 1);
+      b = at .b - 1;
+      kept = max (at .kept) n;
+      found = n;
+      lengths = set (at .lengths)
+          (at .b - 1) n;
+    })
 
-pub following-over : (at : Drive) (n : ℕ) → 64 < n → record { going = false; b = at .b; kept = at .kept; found = n; lengths = at .lengths } ≡ following at n
+pub following-over : (at : Drive) (n : ℕ) → 64 < n → record {
+  going = false;
+  b = at .b;
+  kept = at .kept;
+  found = n;
+  lengths = at .lengths;
+} ≡ following at n
 following-over at n h = rw (lt-ltb 64 n h)
 
 pub following-more : (at : Drive) (n : ℕ) → n ≤ 64 → (m : ℕ) → m ≡ max (at .kept) n
-    → record { going = ltb 0 (at .b - 1); b = at .b - 1; kept = m; found = n; lengths = set (at .lengths) (at .b - 1) n } ≡ following at n
-following-more at n h m e = rw (le-ltb 64 n h) (λ t. record { going = ltb 0 (at .b - 1); b = at .b - 1; kept = e t; found = n; lengths = set (at .lengths) (at .b - 1) n })
+    → record {
+      going = ltb 0 (at .b - 1);
+      b = at .b - 1;
+      kept = m;
+      found = n;
+      lengths = set (at .lengths)
+          (at .b - 1) n;
+    } ≡ following at n
+following-more at n h m e = rw (le-ltb 64 n h) (λ t.
+    record {
+      going = ltb 0 (at .b - 1);
+      b = at .b - 1;
+      kept = e t;
+      found = n;
+      lengths = set (at .lengths)
+          (at .b - 1) n;
+    })
 
 -- what the rows came to
 abbrev pub finished : Drive → Swept
@@ -43,16 +77,19 @@ left at = cond (at .going) (at .b) 0
 
 module _ (plan : List ℕ) (count : ℕ) (lent : List Entry) where
   abbrev Ends : Drive → List Entry → Type 0
-  Ends at table = (body : Body) (cost : ℕ → ℕ → ℕ) → Planned body cost plan → Sound body → body .count ≡ count → SweptAs body cost lent table (finished at)
+  Ends at table = (body : Body) (cost : ℕ → ℕ → ℕ) → Planned body cost plan → Sound body → body .count ≡ count
+      → SweptAs body cost lent table (finished at)
 
   pub record Driven (at : Drive) (table : List Entry) : Type 0 where
-    pub more : at .going ≡ true → (0 < at .b) × Sweeping plan lent table (at .lengths) count (at .b) (at .kept) (at .found)
+    pub more : at .going ≡ true → (0 < at .b) × Sweeping plan lent table (at .lengths) count (at .b) (at .kept)
+        (at .found)
     pub ended : at .going ≡ false → Ends at table
     pub same : length table ≡ length lent
     pub some : 64 < at .found → 0 < at .b
     pub none : count ≡ 0 → (at .going ≡ false) × (table ≡ lent)
 
-  module _ (fits : (k : ℕ) → getD plan k 0 < 2 ^ 64) (of : 0 < count → PlanOf plan count) (room : 64 * count ≤ length lent) where
+  module _ (fits : (k : ℕ) → getD plan k 0 < 2 ^ 64) (of : 0 < count → PlanOf plan count)
+      (room : 64 * count ≤ length lent) where
     pub driven-start : Driven (started count) lent
     driven-start = record {
       more = λ g. (ltb-true 0 count g, sweeping-start plan lent count);
@@ -89,30 +126,43 @@ module _ (plan : List ℕ) (count : ℕ) (lent : List Entry) where
         rows = here .sizes .size;
         few = here .sizes .few;
         room = omega (arith, here .below, d .same, room);
-        inside = sweeping-inside plan fits count plan-of lent table (at .lengths) room (at .b) (at .kept) (at .found) any here;
-        light = sweeping-light plan fits count plan-of lent table (at .lengths) room (at .b) (at .kept) (at .found) any here;
+        inside = sweeping-inside plan fits count plan-of lent table (at .lengths) room (at .b) (at .kept)
+            (at .found) any here;
+        light = sweeping-light plan fits count plan-of lent table (at .lengths) room (at .b) (at .kept)
+            (at .found) any here;
       }
 
       pub lengths-size : length (at .lengths) ≡ 64
       lengths-size = here .sizes .size
 
-      module _ (new : List Entry) (n : ℕ) (size : length new ≡ length table) (turned : turnedBy plan count at table new n) where
+      module _ (new : List Entry) (n : ℕ) (size : length new ≡ length table)
+          (turned : turnedBy plan count at table new n) where
         -- the block's row is stored, and the drive goes on below it, or is at its end
         abbrev below : Drive
-        below = record { going = ltb 0 (at .b - 1); b = at .b - 1; kept = max (at .kept) n; found = n; lengths = set (at .lengths) (at .b - 1) n }
+        below = record {
+          going = ltb 0 (at .b - 1);
+          b = at .b - 1;
+          kept = max (at .kept) n;
+          found = n;
+          lengths = set
+              (at .lengths) (at .b - 1) n;
+        }
 
         abbrev over : Drive
         over = record { going = false; b = at .b; kept = at .kept; found = n; lengths = at .lengths }
 
         module _ (few : n ≤ 64) where
           swept : Sweeping plan lent new (set (at .lengths) (at .b - 1) n) count (at .b - 1) (max (at .kept) n) n
-          swept = sweeping-more plan fits count plan-of lent table (at .lengths) room (at .b) (at .kept) (at .found) any here new n turned few size
+          swept = sweeping-more plan fits count plan-of lent table (at .lengths) room (at .b) (at .kept)
+              (at .found) any here new n turned few size
 
           driven-below : Driven below new
           driven-below = record {
             more = λ q. (ltb-true 0 (at .b - 1) q, swept);
-            ended = λ q body cost p s e. subst (SweptAs body cost lent new) (sym (ap (λ c. cond c (Crowded (at .b - 1 - 1)) (Rows (max (at .kept) n) n)) (le-ltb 64 n few)))
-                (sweeping-end plan lent new (set (at .lengths) (at .b - 1) n) count (at .b - 1) (max (at .kept) n) n (zero-of (ltb-false 0 (at .b - 1) q)) swept body cost p s e);
+            ended = λ q body cost p s e. subst (SweptAs body cost lent new)
+                (sym (ap (λ c. cond c (Crowded (at .b - 1 - 1)) (Rows (max (at .kept) n) n)) (le-ltb 64 n few)))
+                (sweeping-end plan lent new (set (at .lengths) (at .b - 1) n) count (at .b - 1) (max (at .kept) n) n
+                (zero-of (ltb-false 0 (at .b - 1) q)) swept body cost p s e);
             same = size ∙ d .same;
             some = λ h. absurd (never h);
             none = λ e. absurd (no-block e);
@@ -130,8 +180,10 @@ module _ (plan : List ℕ) (count : ℕ) (lent : List Entry) where
         driven-over : 64 < n → Driven over new
         driven-over h = record {
           more = λ q. absurd (clash q refl);
-          ended = λ q body cost p s e. subst (SweptAs body cost lent new) (sym (ap (λ c. cond c (Crowded (at .b - 1)) (Rows (at .kept) n)) (lt-ltb 64 n h)))
-              (sweeping-crowded plan fits count plan-of lent table (at .lengths) room (at .b) (at .kept) (at .found) any here new n turned h body cost p s e);
+          ended = λ q body cost p s e. subst (SweptAs body cost lent new)
+              (sym (ap (λ c. cond c (Crowded (at .b - 1)) (Rows (at .kept) n)) (lt-ltb 64 n h)))
+              (sweeping-crowded plan fits count plan-of lent table (at .lengths) room (at .b) (at .kept)
+              (at .found) any here new n turned h body cost p s e);
           same = size ∙ d .same;
           some = λ k. any;
           none = λ e. absurd (no-block e);

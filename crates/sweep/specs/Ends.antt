@@ -1,22 +1,21 @@
--- From the rows to the sweep's answer: what the functions that answer do, and that it is what is owed (`ended`). Rests on Answer, Drive, plan's Prepared and theory's WalkWords.
+-- From the rows to the sweep's answer: what the functions that answer do, and that it is what is owed (`ended`). Rests
+-- on Answer, Drive, plan's Prepared and theory's WalkWords.
 use mathlib.Core.Path.{_≡_, refl, sym, ap, ap₂, subst, _∙_}
-use mathlib.Core.Logic.{_⊎_, inl, inr}
 use mathlib.Core.Bool.{Bool, true, false, cond}
 use mathlib.Core.List.{List, [], _∷_, _++_}
 use mathlib.Core.Option.{Option, none, some}
-use Prim.Native.Nat.{ℕ, zero, suc, min, _+_, _*_, _≤_, _<_}
+use Prim.Native.Nat.{ℕ, min, _+_, _*_, _≤_, _<_}
 use native.Mathlib.Nat.{zero-add}
 use native.Mathlib.Omega.{arith}
 use borrow.Author.Tests.{lt-ltb, le-ltb, eq-eqb, ne-eqb, ltb-true, ltb-false}
 use lib.Dec.{eqb, ltb}
 use lib.ListN.{length, getD, drop}
 use Rattle.laws.specs.Terms.{Mem, heavier}
-use Rattle.laws.specs.Tests.{split}
 use Rattle.form.specs.declared.Body.{Body}
 use Rattle.form.specs.Form.{bodyOf}
 use Rattle.form.specs.Conflict.{Sound, conflicts}
 use Rattle.roundtrip.specs.Sound.{sound}
-use Rattle.theory.specs.Route.{Path, Side, dearest, routeOn, boundOf, stepCost, routeBytes}
+use Rattle.theory.specs.Route.{Path, Side, dearest, routeOn, boundOf, stepCost}
 use Rattle.theory.specs.Row.{leftBy, found, kept, crowded}
 use Rattle.theory.specs.Edges.{noEdges}
 use Rattle.theory.specs.Row.{Key}
@@ -40,23 +39,33 @@ use Rattle.sweep.specs.declared.SweepAnswer.the-variants.{Routed, Refuse
 use Rattle.sweep.specs.Answer as Answer
 use Rattle.sweep.specs.Answer.{noEntry, Outcome, outcomeOf, refused, tableWith, rowsOn, routed, swept, sweepOutcome, SweepOwed}
 use Rattle.sweep.specs.Table.{entriesIn, in-length, in-mem, rowFetched, fetched-none, row-fetched-at}
-use Rattle.sweep.specs.Turn.{rowOf, range-of}
+use Rattle.sweep.specs.Turn.{rowOf}
 use Rattle.sweep.specs.Drive.{heaviestBy, longestRow, highestCrowd, sweptOf, completeFrom, SweptAs, weight-few}
 
 -- ---- what the functions that answer do
 
 -- what row 0 comes to: its one entry's weight and route, or 43
 abbrev pub answerOf : (count iterations kept found : ℕ) → Way → (route : List ℕ) → SweepAnswer × List ℕ
-answerOf count iterations kept found way route = cond (eqb found 0) (Refused 43 0, route)
-    (Routed iterations (way .weight) (boundOf iterations (way .weight)) kept, bytesOf count (way .jumped) (way .fallen) ++ drop count route)
+answerOf count iterations kept found way route = cond (eqb found 0) (Refused 43 0, route) (
+  Routed iterations (way .weight) (boundOf iterations (way .weight)) kept,
+  bytesOf count (way .jumped)
+      (way .fallen) ++ drop count route,
+)
 
 module _ (count iterations kept found : ℕ) (way : Way) (route : List ℕ) where
-  pub answer-none : {r : SweepAnswer} → found ≡ 0 → r ≡ Refused 43 0 → _≡_ {A = SweepAnswer × List ℕ} (r, route) (answerOf count iterations kept found way route)
+  pub answer-none : {r : SweepAnswer} → found ≡ 0 → r ≡ Refused 43 0 → _≡_ {A = SweepAnswer × List ℕ} (r, route)
+      (answerOf count iterations kept found way route)
   answer-none e p = rw (eq-eqb found 0 e) (λ i. (p i, route))
 
-  pub answer-some : {held : List ℕ} → (found ≡ 0 → ⊥) → held ≡ bytesOf count (way .jumped) (way .fallen) ++ drop count route
-      → _≡_ {A = SweepAnswer × List ℕ} (Routed iterations (way .weight) (boundOf iterations (way .weight)) kept, held) (answerOf count iterations kept found way route)
-  answer-some d p = rw (ne-eqb found 0 d) (λ i. (Routed iterations (way .weight) (boundOf iterations (way .weight)) kept, p i))
+  pub answer-some : {held : List ℕ} → (found ≡ 0 → ⊥) → held ≡ bytesOf count (way .jumped)
+      (way .fallen) ++ drop count route
+      → _≡_ {A = SweepAnswer × List ℕ} (Routed iterations (way .weight) (boundOf iterations (way .weight)) kept, held)
+      (answerOf count iterations kept found way route)
+  answer-some d p = rw (ne-eqb found 0 d) (λ i. (
+    Routed iterations (way .weight)
+        (boundOf iterations (way .weight)) kept,
+    p i,
+  ))
 
 -- how many blocks are swept
 abbrev pub allowedOf : (count entries bytes : ℕ) → ℕ
@@ -74,7 +83,8 @@ abbrev pub concluded : Prepared → (entries : ℕ) → Swept → (first route :
 concluded ready entries swept first route =
     cond (ltb 0 (ready .number)) (Refused (ready .number) (ready .place), route)
     (cond (ltb (length route) (ready .count)) (Refused 42 (ready .count), route)
-    (cond (ltb entries (64 * ready .count)) (Refused 44 (64 * ready .count), route) (settled (ready .count) (ready .iterations) swept first route)))
+    (cond (ltb entries (64 * ready .count)) (Refused 44 (64 * ready .count), route)
+    (settled (ready .count) (ready .iterations) swept first route)))
 
 -- the weight in row 0 keeps to the limit
 abbrev pub WeightFew : Swept → (first : List ℕ) → Type 0
@@ -85,37 +95,61 @@ module _ (ready : Prepared) (entries : ℕ) (swept : Swept) (first route : List 
   abbrev Concluded : SweepAnswer × List ℕ → Type 0
   Concluded x = x ≡ concluded ready entries swept first route
 
-  pub unstarted : {r : SweepAnswer} → 0 < ready .number → r ≡ Refused (ready .number) (ready .place) → Concluded (r, route)
+  pub unstarted : {r : SweepAnswer} → 0 < ready .number → r ≡ Refused (ready .number) (ready .place) → Concluded
+      (r, route)
   unstarted h e = rw (lt-ltb 0 (ready .number) h) (λ t. (e t, route))
 
   module _ (z : ready .number ≤ 0) where
-    pub few-bytes : {r : SweepAnswer} → length route < ready .count → r ≡ Refused 42 (ready .count) → Concluded (r, route)
+    pub few-bytes : {r : SweepAnswer} → length route < ready .count → r ≡ Refused 42 (ready .count) → Concluded
+        (r, route)
     few-bytes h e = rw (le-ltb 0 (ready .number) z, lt-ltb (length route) (ready .count) h) (λ t. (e t, route))
 
     module _ (l : ready .count ≤ length route) where
-      pub few-entries : {r : SweepAnswer} → entries < 64 * ready .count → r ≡ Refused 44 (64 * ready .count) → Concluded (r, route)
-      few-entries h e = rw (le-ltb 0 (ready .number) z, le-ltb (length route) (ready .count) l, lt-ltb entries (64 * ready .count) h) (λ t. (e t, route))
+      pub few-entries : {r : SweepAnswer} → entries < 64 * ready .count → r ≡ Refused 44 (64 * ready .count)
+          → Concluded (r, route)
+      few-entries h e = rw (
+        le-ltb 0 (ready .number) z,
+        le-ltb (length route) (ready .count) l,
+        lt-ltb entries
+            (64 * ready .count) h,
+      ) (λ t. (e t, route))
 
       module _ (h : 64 * ready .count ≤ entries) where
         pub crowd : {r : SweepAnswer} {b : ℕ} → swept ≡ Crowded b → r ≡ Refused 40 b → Concluded (r, route)
-        crowd q e = rw (le-ltb 0 (ready .number) z, le-ltb (length route) (ready .count) l, le-ltb entries (64 * ready .count) h, q) (λ t. (e t, route))
+        crowd q e = rw (
+          le-ltb 0 (ready .number) z,
+          le-ltb (length route) (ready .count) l,
+          le-ltb entries
+              (64 * ready .count) h,
+          q,
+        ) (λ t. (e t, route))
 
-        pub all-rows : {x : SweepAnswer × List ℕ} {kept found : ℕ} → swept ≡ Rows kept found → x ≡ answerOf (ready .count) (ready .iterations) kept found (wayOf first) route → Concluded x
-        all-rows q e = rw (le-ltb 0 (ready .number) z, le-ltb (length route) (ready .count) l, le-ltb entries (64 * ready .count) h, q) e
+        pub all-rows : {x : SweepAnswer × List ℕ} {kept found : ℕ} → swept ≡ Rows kept found → x ≡ answerOf
+            (ready .count) (ready .iterations) kept found (wayOf first) route → Concluded x
+        all-rows q e = rw (
+          le-ltb 0 (ready .number) z,
+          le-ltb (length route) (ready .count) l,
+          le-ltb entries
+              (64 * ready .count) h,
+          q,
+        ) e
 
 -- ---- with all rows, or up to the crowded one
 
-module _ (body : Body) (g : Sound body) (cost : ℕ → ℕ → ℕ) (n : ℕ) (size : body .count ≡ n) (route : List ℕ) (lent table : List Entry) (iterations : ℕ) where
+module _ (body : Body) (g : Sound body) (cost : ℕ → ℕ → ℕ) (n : ℕ) (size : body .count ≡ n) (route : List ℕ)
+    (lent table : List Entry) (iterations : ℕ) where
   abbrev side : Side
   side = heaviestBy cost
 
   abbrev Made : SweepAnswer × List ℕ → Option ℕ → Type 0
   Made x o = outcomeOf (x .0) (x .1) table ≡ swept body side route lent iterations o
 
-  over : (b : ℕ) → SweptAs body cost lent table (Crowded b) → Made (Refused 40 b, route) (highestCrowd body cost (body .count))
+  over : (b : ℕ) → SweptAs body cost lent table (Crowded b) → Made (Refused 40 b, route)
+      (highestCrowd body cost (body .count))
   over b s = by (highestCrowd body cost (body .count)) (s .answer-is) (s .table-is)
     where
-      by : (o : Option ℕ) → Crowded b ≡ sweptOf body cost o → table ≡ tableWith (rowsOn body side) (completeFrom o) (body .count) lent → Made (Refused 40 b, route) o
+      by : (o : Option ℕ) → Crowded b ≡ sweptOf body cost o → table ≡ tableWith (rowsOn body side) (completeFrom o)
+          (body .count) lent → Made (Refused 40 b, route) o
       by none a t = let z : _≡_ {A = ℕ} 0 1 = cc in absurd (omega arith)
       by (some c) a t = let d : b ≡ c = cc in ap₂ (λ c t. outcomeOf (Refused 40 c) route t) d t
 
@@ -126,7 +160,8 @@ module _ (body : Body) (g : Sound body) (cost : ℕ → ℕ → ℕ) (n : ℕ) (
     uncrowded : (highestCrowd body cost (body .count) ≡ none) × (keep ≡ longestRow body cost (body .count))
     uncrowded = by (highestCrowd body cost (body .count)) refl (s .answer-is)
       where
-        by : (o : Option ℕ) → highestCrowd body cost (body .count) ≡ o → Rows keep find ≡ sweptOf body cost o → (highestCrowd body cost (body .count) ≡ none) × (keep ≡ longestRow body cost (body .count))
+        by : (o : Option ℕ) → highestCrowd body cost (body .count) ≡ o → Rows keep find ≡ sweptOf body cost o →
+            (highestCrowd body cost (body .count) ≡ none) × (keep ≡ longestRow body cost (body .count))
         by none e a = (e, cc)
         by (some c) e a = let z : _≡_ {A = ℕ} 0 1 = cc in absurd (omega arith)
 
@@ -141,30 +176,46 @@ module _ (body : Body) (g : Sound body) (cost : ℕ → ℕ → ℕ) (n : ℕ) (
     no-route : routeOn body side ≡ none → find ≡ 0
     no-route e = sym (in-length table 0 find) ∙ ap length (row-zero ∙ ap (λ o. found noEdges (wordsFound body o)) e)
 
-    one-route : (v : ℕ × Path) → routeOn body side ≡ some v → (find ≡ 1) × (tupleOf (getD table 0 noEntry) ≡ (noEdges, wordsOf body v))
+    one-route : (v : ℕ × Path) → routeOn body side ≡ some v → (find ≡ 1) ×
+        (tupleOf (getD table 0 noEntry) ≡ (noEdges, wordsOf body v))
     unfolding entriesIn
     one-route v e =
-        let r : entriesIn table 0 find ≡ (noEdges, wordsOf body v) ∷ [] = row-zero ∙ ap (λ o. found noEdges (wordsFound body o)) e in
+        let r : entriesIn table 0 find ≡ (noEdges, wordsOf body v) ∷ [] = row-zero ∙ ap
+        (λ o. found noEdges (wordsFound body o)) e in
         let one : find ≡ 1 = sym (in-length table 0 find) ∙ ap length r in
-        let same : tupleOf (getD table 0 noEntry) ∷ [] ≡ (noEdges, wordsOf body v) ∷ [] = ap (entriesIn table 0) (sym one) ∙ r in
+        let same : tupleOf (getD table 0 noEntry) ∷ [] ≡ (noEdges, wordsOf body v) ∷ [] = ap (entriesIn table 0)
+        (sym one) ∙ r in
         (one, cc)
 
     answered-by : (o : Option (ℕ × Path)) → routeOn body side ≡ o
-        → outcomeOf (answerOf n iterations keep find (getD table 0 noEntry .way) route .0) (answerOf n iterations keep find (getD table 0 noEntry .way) route .1) table ≡ routed body side route lent iterations o
+        → outcomeOf (answerOf n iterations keep find (getD table 0 noEntry .way) route .0)
+        (answerOf n iterations keep find (getD table 0 noEntry .way) route .1) table
+        ≡ routed body side route lent iterations o
     unfolding bytesOf
     answered-by none q =
-        ap₂ (λ (f : ℕ) (t : List Entry). outcomeOf (answerOf n iterations keep f (getD table 0 noEntry .way) route .0) (answerOf n iterations keep f (getD table 0 noEntry .way) route .1) t) (no-route q) table-is
+        ap₂ (λ (f : ℕ) (t : List Entry). outcomeOf (answerOf n iterations keep f (getD table 0 noEntry .way) route .0)
+        (answerOf n iterations keep f (getD table 0 noEntry .way) route .1) t) (no-route q) table-is
     answered-by (some v) q =
         let (one, first) = one-route v q in
         let words : answerOf n iterations keep find (getD table 0 noEntry .way) route
-        ≡ (Routed iterations (v .0) (boundOf iterations (v .0)) (kept body cost heavier), bytesOf (body .count) (leftBy body 1 (v .1)) (leftBy body 2 (v .1)) ++ drop (body .count) route) =
+        ≡ (
+          Routed iterations (v .0) (boundOf iterations (v .0)) (kept body cost heavier),
+          bytesOf (body .count)
+              (leftBy body 1 (v .1)) (leftBy body 2 (v .1)) ++ drop (body .count) route,
+        ) =
         ap (λ f. answerOf n iterations keep f (getD table 0 noEntry .way) route) one
-        ∙ (λ i. (Routed iterations (first i .1 .0) (boundOf iterations (first i .1 .0)) (kept-is i), bytesOf (sym size i) (first i .1 .1 .0) (first i .1 .1 .1) ++ drop (sym size i) route)) in
+        ∙ (λ i. (
+          Routed iterations (first i .1 .0) (boundOf iterations (first i .1 .0)) (kept-is i),
+          bytesOf
+              (sym size i) (first i .1 .1 .0) (first i .1 .1 .1) ++ drop (sym size i) route,
+        )) in
         ap₂ (λ (y : SweepAnswer × List ℕ) (t : List Entry). outcomeOf (y .0) (y .1) t) words table-is
-        ∙ ap (λ b. outcomeOf (Routed iterations (v .0) (boundOf iterations (v .0)) (kept body cost heavier)) (b ++ drop (body .count) route) (tableWith (rowsOn body side) 0 (body .count) lent))
+        ∙ ap (λ b. outcomeOf (Routed iterations (v .0) (boundOf iterations (v .0)) (kept body cost heavier))
+        (b ++ drop (body .count) route) (tableWith (rowsOn body side) 0 (body .count) lent))
         (sym (bytes-words body (g .onward) (v .1) (best-leads body cost heavier v q .0)))
 
-    answered : Made (answerOf n iterations keep find (getD table 0 noEntry .way) route) (highestCrowd body cost (body .count))
+    answered : Made (answerOf n iterations keep find (getD table 0 noEntry .way) route)
+        (highestCrowd body cost (body .count))
     answered = answered-by (routeOn body side) refl ∙ ap (swept body side route lent iterations) (sym (uncrowded .0))
 
 -- ---- the whole sweep, of any bytes
@@ -172,19 +223,22 @@ module _ (body : Body) (g : Sound body) (cost : ℕ → ℕ → ℕ) (n : ℕ) (
 -- what `sweep_rows` owes
 abbrev pub Rowed : (plan : List ℕ) (count : ℕ) (lent table : List Entry) → Swept → Type 0
 Rowed plan count lent table r =
-    ((body : Body) (cost : ℕ → ℕ → ℕ) → Planned body cost plan → Sound body → body .count ≡ count → SweptAs body cost lent table r) × (count ≡ 0 → table ≡ lent)
+    ((body : Body) (cost : ℕ → ℕ → ℕ) → Planned body cost plan → Sound body → body .count ≡ count
+    → SweptAs body cost lent table r) × (count ≡ 0 → table ≡ lent)
 
 -- a refusal, or a plan of some blocks
 data Known (form : List ℕ) (ready : Prepared) : Type 0 where
   not-ready : 0 < ready .number → ready .count ≡ 0 → Known form ready
-  is-ready : ready .number ≡ 0 → Start form (ready .count) (ready .iterations) (ready .plan) → 0 < ready .count → Known form ready
+  is-ready : ready .number ≡ 0 → Start form (ready .count) (ready .iterations) (ready .plan) → 0 < ready .count
+      → Known form ready
 
 known : (form : List ℕ) (ready : Prepared) → PreparedOf form ready → Known form ready
 known form ready (Refuses r d e) = not-ready (positive (ready .number) d) e
   where
     positive : (n : ℕ) → (n ≡ 0 → ⊥) → 0 < n
     positive n d = omega arith
-known form ready (Starts z s) = let of = start-plan form (ready .count) (ready .iterations) (ready .plan) s in is-ready z s (omega (arith, of .sound .some, of .size))
+known form ready (Starts z s) = let of = start-plan form (ready .count) (ready .iterations) (ready .plan) s in
+    is-ready z s (omega (arith, of .sound .some, of .size))
 
 module _ (form : List ℕ) (ready : Prepared) (is : PreparedOf form ready) (lent : List Entry) (route : List ℕ) where
   abbrev count : ℕ
@@ -219,7 +273,8 @@ module _ (form : List ℕ) (ready : Prepared) (is : PreparedOf form ready) (lent
         by : (c d : Bool) → ltb (length route) count ≡ c → ltb (length lent) (64 * count) ≡ d → Blocks
         by true d p q = no-block (b-is ∙ ap (λ c. cond c 0 (cond (ltb (length lent) (64 * count)) 0 count)) p)
         by false true p q = no-block (b-is ∙ ap₂ (λ c d. cond c 0 (cond d 0 count)) p q)
-        by false false p q = all-blocks (b-is ∙ ap₂ (λ c d. cond c 0 (cond d 0 count)) p q) (ltb-false (length route) count p) (ltb-false (length lent) (64 * count) q)
+        by false false p q = all-blocks (b-is ∙ ap₂ (λ c d. cond c 0 (cond d 0 count)) p q)
+            (ltb-false (length route) count p) (ltb-false (length lent) (64 * count) q)
 
     -- what `sweep_rows` asks
     pub rows-asked : (0 < b → PlanOf (ready .plan) b) × (64 * b ≤ length lent)
@@ -233,21 +288,26 @@ module _ (form : List ℕ) (ready : Prepared) (is : PreparedOf form ready) (lent
         by (all-blocks e l m) (not-ready h z) = (λ h. absurd (never (e ∙ z) h), omega arith)
         by (all-blocks e l m) (is-ready z s h) = (λ h. subst (PlanOf (ready .plan)) (sym e) (plan-of s), omega arith)
 
-    module _ (table : List Entry) (swept : Swept) (size : length table ≡ length lent) (rowed : Rowed (ready .plan) b lent table swept) (first : List ℕ) (first-is : first ≡ rowFetched table 0 (min b 1)) where
+    module _ (table : List Entry) (swept : Swept) (size : length table ≡ length lent)
+        (rowed : Rowed (ready .plan) b lent table swept) (first : List ℕ)
+        (first-is : first ≡ rowFetched table 0 (min b 1)) where
       -- what `fetch` asks
       pub first-asked : (min b 1 ≤ 64) × ((k : ℕ) → k < min b 1 → 0 + k < length table)
       first-asked = (omega arith, λ k h. omega (arith, rows-asked .1))
 
       -- row 0's entry, where there is one
       entry : 0 < b → entryAt first 0 ≡ tupleOf (getD table 0 noEntry)
-      entry h = ap (λ l. entryAt l 0) first-is ∙ row-fetched-at table 0 (min b 1) (omega arith) 0 (omega arith) ∙ ap (λ i. tupleOf (getD table i noEntry)) (zero-add 0)
+      entry h = ap (λ l. entryAt l 0) first-is ∙ row-fetched-at table 0 (min b 1) (omega arith) 0 (omega arith) ∙ ap
+          (λ i. tupleOf (getD table i noEntry)) (zero-add 0)
 
       -- what `conclude` asks
       pub light : WeightFew swept first
       light keep find e h = by blocks (known form ready is)
         where
           no-weight : b ≡ 0 → wayOf first .weight ≤ costLimit
-          no-weight z = subst (λ (l : List ℕ). wayOf l .weight ≤ costLimit) (sym (first-is ∙ ap (λ m. rowFetched table 0 (min m 1)) z ∙ sym (fetched-none zeroRow table 0))) (omega (arith, zero-at 2))
+          no-weight z = subst (λ (l : List ℕ). wayOf l .weight ≤ costLimit)
+              (sym (first-is ∙ ap (λ m. rowFetched table 0 (min m 1)) z ∙ sym (fetched-none zeroRow table 0)))
+              (omega (arith, zero-at 2))
 
           by : Blocks → Known form ready → wayOf first .weight ≤ costLimit
           by (no-block z) k = no-weight z
@@ -257,14 +317,19 @@ module _ (form : List ℕ) (ready : Prepared) (is : PreparedOf form ready) (lent
               let body = of .body in
               let row = rowed .0 body (of .cost) (of .planned) (of .sound) (of .size ∙ sym p) in
               let m : Mem (tupleOf (getD table 0 noEntry)) (rowOf body (of .cost) 0) =
-              subst (Mem (tupleOf (getD table 0 noEntry))) (row .first keep find e) (subst (λ (i : ℕ). Mem (tupleOf (getD table i noEntry)) (entriesIn table 0 find)) (zero-add 0) (in-mem table 0 find 0 h)) in
-              subst (λ (x : Key × Words). x .1 .0 ≤ costLimit) (sym (entry (omega arith))) (weight-few body (of .sound) (of .cost) (of .range) 0 (of .sound .some) (tupleOf (getD table 0 noEntry)) m)
+              subst (Mem (tupleOf (getD table 0 noEntry))) (row .first keep find e)
+              (subst (λ (i : ℕ). Mem (tupleOf (getD table i noEntry)) (entriesIn table 0 find)) (zero-add 0)
+              (in-mem table 0 find 0 h)) in
+              subst (λ (x : Key × Words). x .1 .0 ≤ costLimit) (sym (entry (omega arith)))
+              (weight-few body (of .sound) (of .cost) (of .range) 0 (of .sound .some)
+              (tupleOf (getD table 0 noEntry)) m)
 
       -- an answer with the route's bytes is what is owed
       abbrev Owes : SweepAnswer × List ℕ → Type 0
       Owes x = SweepOwed form route lent (outcomeOf (x .0) (x .1) table)
 
-      module _ (z : ready .number ≡ 0) (s : Start form (ready .count) (ready .iterations) (ready .plan)) (any : 0 < count) where
+      module _ (z : ready .number ≡ 0) (s : Start form (ready .count) (ready .iterations) (ready .plan))
+          (any : 0 < count) where
         abbrev body : Body
         body = bodyOf form
 
@@ -272,7 +337,8 @@ module _ (form : List ℕ) (ready : Prepared) (is : PreparedOf form ready) (lent
         with = sweepOutcome body (dearest body) route lent
 
         owes : (x : SweepAnswer × List ℕ) → outcomeOf (x .0) (x .1) table ≡ with (ready .iterations) → Owes x
-        owes x e = start-owed form (ready .count) (ready .iterations) (ready .plan) s (refused route lent) with (outcomeOf (x .0) (x .1) table) e
+        owes x e = start-owed form (ready .count) (ready .iterations) (ready .plan) s (refused route lent) with
+            (outcomeOf (x .0) (x .1) table) e
 
         abbrev cost : ℕ → ℕ → ℕ
         cost = stepCost body
@@ -283,62 +349,92 @@ module _ (form : List ℕ) (ready : Prepared) (is : PreparedOf form ready) (lent
 
         short-route : b ≡ 0 → length route < count → Owes (Refused 42 count, route)
         short-route e h = owes (Refused 42 count, route)
-            (ap₂ (λ (n : ℕ) (t : List Entry). outcomeOf (Refused 42 n) route t) (sym (s .size)) (rowed .1 e) ∙ rw (lt-ltb (length route) (body .count) (omega (arith, s .size))))
+            (ap₂ (λ (n : ℕ) (t : List Entry). outcomeOf (Refused 42 n) route t) (sym (s .size)) (rowed .1 e) ∙ rw
+            (lt-ltb (length route) (body .count) (omega (arith, s .size))))
 
         short-table : b ≡ 0 → count ≤ length route → length lent < 64 * count → Owes (Refused 44 (64 * count), route)
         short-table e l h = owes (Refused 44 (64 * count), route)
             (ap₂ (λ (n : ℕ) (t : List Entry). outcomeOf (Refused 44 (64 * n)) route t) (sym (s .size)) (rowed .1 e)
-            ∙ rw (le-ltb (length route) (body .count) (omega (arith, s .size)), lt-ltb (length lent) (64 * body .count) (omega (arith, s .size))))
+            ∙ rw (
+              le-ltb (length route) (body .count) (omega (arith, s .size)),
+              lt-ltb (length lent) (64 * body .count)
+                  (omega (arith, s .size)),
+            ))
 
         module _ (full : b ≡ count) (l : count ≤ length route) (m : 64 * count ≤ length lent) where
-          whole : (x : SweepAnswer × List ℕ) → Made body (sound form (s .accepted)) cost count (s .size) route lent table (ready .iterations) x (highestCrowd body cost (body .count)) → Owes x
+          whole : (x : SweepAnswer × List ℕ) → Made body (sound form (s .accepted)) cost count
+              (s .size) route lent table (ready .iterations) x (highestCrowd body cost (body .count)) → Owes x
           whole x e = owes x
               (e ∙ ap (λ o. Answer.swept body (dearest body) route lent (ready .iterations) o) crowd-is
-              ∙ sym (rw (le-ltb (length route) (body .count) (omega (arith, s .size)), le-ltb (length lent) (64 * body .count) (omega (arith, s .size))) refl))
+              ∙ sym (rw (
+                le-ltb (length route) (body .count) (omega (arith, s .size)),
+                le-ltb (length lent)
+                    (64 * body .count) (omega (arith, s .size)),
+              ) refl))
 
           same-way : wayOf first ≡ getD table 0 noEntry .way
           same-way = ap (λ (e : Key × Words). structOf e .way) (entry (omega arith))
 
-          by-rows : (r : Swept) → SweptAs body cost lent table r → Owes (settled count (ready .iterations) r first route)
-          by-rows (Crowded c) w = whole (Refused 40 c, route) (over body (sound form (s .accepted)) cost count (s .size) route lent table (ready .iterations) c w)
+          by-rows : (r : Swept) → SweptAs body cost lent table r → Owes
+              (settled count (ready .iterations) r first route)
+          by-rows (Crowded c) w = whole (Refused 40 c, route)
+              (over body (sound form (s .accepted)) cost count (s .size) route lent table (ready .iterations) c w)
           by-rows (Rows keep find) w =
               subst (λ (way : Way). Owes (answerOf count (ready .iterations) keep find way route)) (sym same-way)
-              (whole (answerOf count (ready .iterations) keep find (getD table 0 noEntry .way) route) (answered body (sound form (s .accepted)) cost count (s .size) route lent table (ready .iterations) keep find w))
+              (whole (answerOf count (ready .iterations) keep find (getD table 0 noEntry .way) route)
+              (answered body (sound form (s .accepted)) cost count (s .size) route lent table
+              (ready .iterations) keep find w))
 
           with-rows : Owes (settled count (ready .iterations) swept first route)
           with-rows = by-rows swept (rowed .0 body cost (s .planned) (sound form (s .accepted)) (s .size ∙ sym full))
 
-      pub ended : (answer : SweepAnswer) (held : List ℕ) → (answer, held) ≡ concluded ready (length table) swept first route → SweepOwed form route lent (outcomeOf answer held table)
+      pub ended : (answer : SweepAnswer) (held : List ℕ) → (answer, held) ≡ concluded ready
+          (length table) swept first route → SweepOwed form route lent (outcomeOf answer held table)
       ended answer held e = subst Owes (sym e) (by is)
         where
           nothing : count ≡ 0 → b ≡ 0
-          nothing z = b-is ∙ ap (λ n. allowedOf n (length lent) (length route)) z ∙ zeros (ltb (length route) 0) (ltb (length lent) (64 * 0))
+          nothing z = b-is ∙ ap (λ n. allowedOf n (length lent) (length route)) z ∙ zeros (ltb (length route) 0)
+              (ltb (length lent) (64 * 0))
             where
               zeros : (c d : Bool) → _≡_ {A = ℕ} (cond c 0 (cond d 0 0)) 0
               zeros true d = refl
               zeros false true = refl
               zeros false false = refl
 
-          by-memory : (z : ready .number ≡ 0) (s : Start form (ready .count) (ready .iterations) (ready .plan)) (any : 0 < count) (c d : Bool) → ltb (length route) count ≡ c → ltb (length table) (64 * count) ≡ d
-              → Owes (cond c (Refused 42 count, route) (cond d (Refused 44 (64 * count), route) (settled count (ready .iterations) swept first route)))
-          by-memory z s any true d u v = short-route z s any (b-is ∙ ap (λ c. cond c 0 (cond (ltb (length lent) (64 * count)) 0 count)) u) (ltb-true (length route) count u)
+          by-memory : (z : ready .number ≡ 0) (s : Start form (ready .count) (ready .iterations) (ready .plan))
+              (any : 0 < count) (c d : Bool) → ltb (length route) count ≡ c → ltb (length table) (64 * count) ≡ d
+              → Owes (cond c (Refused 42 count, route) (cond d (Refused 44 (64 * count), route)
+              (settled count (ready .iterations) swept first route)))
+          by-memory z s any true d u v = short-route z s any (b-is ∙ ap
+              (λ c. cond c 0 (cond (ltb (length lent) (64 * count)) 0 count)) u) (ltb-true (length route) count u)
           by-memory z s any false true u v =
               let few : length lent < 64 * count = omega (arith, size, ltb-true (length table) (64 * count) v) in
-              short-table z s any (b-is ∙ ap₂ (λ c d. cond c 0 (cond d 0 count)) u (lt-ltb (length lent) (64 * count) few)) (ltb-false (length route) count u) few
+              short-table z s any (b-is ∙ ap₂ (λ c d. cond c 0 (cond d 0 count)) u
+              (lt-ltb (length lent) (64 * count) few)) (ltb-false (length route) count u) few
           by-memory z s any false false u v =
               let enough : 64 * count ≤ length lent = omega (arith, size, ltb-false (length table) (64 * count) v) in
-              with-rows z s any (b-is ∙ ap₂ (λ c d. cond c 0 (cond d 0 count)) u (le-ltb (length lent) (64 * count) enough)) (ltb-false (length route) count u) enough
+              with-rows z s any (b-is ∙ ap₂ (λ c d. cond c 0 (cond d 0 count)) u
+              (le-ltb (length lent) (64 * count) enough)) (ltb-false (length route) count u) enough
 
           by : PreparedOf form ready → Owes (concluded ready (length table) swept first route)
           by (Refuses r d z) =
-              subst (λ (c : Bool). Owes (cond c (Refused (ready .number) (ready .place), route) (cond (ltb (length route) count) (Refused 42 count, route)
-              (cond (ltb (length table) (64 * count)) (Refused 44 (64 * count), route) (settled count (ready .iterations) swept first route))))) (sym (lt-ltb 0 (ready .number) (positive (ready .number) d)))
-              (subst (λ (t : List Entry). SweepOwed form route lent (outcomeOf (Refused (ready .number) (ready .place)) route t)) (sym (rowed .1 (nothing z)))
-              (refusal-owed form (refused route lent) (sweepOutcome (bodyOf form) (dearest (bodyOf form)) route lent) (ready .number) (ready .place) r))
+              subst (λ (c : Bool). Owes (cond c (Refused (ready .number) (ready .place), route)
+              (cond (ltb (length route) count) (Refused 42 count, route)
+              (cond (ltb (length table) (64 * count)) (Refused 44 (64 * count), route)
+              (settled count (ready .iterations) swept first route)))))
+              (sym (lt-ltb 0 (ready .number) (positive (ready .number) d)))
+              (subst (λ (t : List Entry). SweepOwed form route lent
+              (outcomeOf (Refused (ready .number) (ready .place)) route t)) (sym (rowed .1 (nothing z)))
+              (refusal-owed form (refused route lent) (sweepOutcome (bodyOf form) (dearest (bodyOf form)) route lent)
+              (ready .number) (ready .place) r))
             where
               positive : (n : ℕ) → (n ≡ 0 → ⊥) → 0 < n
               positive n d = omega arith
           by (Starts z s) =
-              subst (λ (c : Bool). Owes (cond c (Refused (ready .number) (ready .place), route) (cond (ltb (length route) count) (Refused 42 count, route)
-              (cond (ltb (length table) (64 * count)) (Refused 44 (64 * count), route) (settled count (ready .iterations) swept first route))))) (sym (le-ltb 0 (ready .number) (omega arith)))
-              (by-memory z s (omega (arith, plan-of s .sound .some, plan-of s .size)) (ltb (length route) count) (ltb (length table) (64 * count)) refl refl)
+              subst (λ (c : Bool). Owes (cond c (Refused (ready .number) (ready .place), route)
+              (cond (ltb (length route) count) (Refused 42 count, route)
+              (cond (ltb (length table) (64 * count)) (Refused 44 (64 * count), route)
+              (settled count (ready .iterations) swept first route)))))
+              (sym (le-ltb 0 (ready .number) (omega arith)))
+              (by-memory z s (omega (arith, plan-of s .sound .some, plan-of s .size)) (ltb (length route) count)
+              (ltb (length table) (64 * count)) refl refl)

@@ -1,4 +1,5 @@
--- The table of entries and the rows in local memory: what `fetch` and `store` do, entry by entry, and that a whole row stored is the row as document 01 has it. Rests on
+-- The table of entries and the rows in local memory: what `fetch` and `store` do, entry by entry, and that a whole row
+-- stored is the row as document 01 has it. Rests on
 -- Answer (what the table is to hold) and rows' Entries.
 use mathlib.Core.Path.{_≡_, refl, sym, ap, ap₂, subst, _∙_}
 use mathlib.Core.Logic.{inl, inr}
@@ -37,30 +38,38 @@ in-length l i (suc n) = ap suc (in-length l (suc i) n)
 pub in-mem : (l : List Entry) (i n k : ℕ) → k < n → Mem (tupleOf (getD l (i + k) noEntry)) (entriesIn l i n)
 unfolding entriesIn
 in-mem l i (suc n) zero h = inl (ap (λ j. tupleOf (getD l j noEntry)) (add-zero i))
-in-mem l i (suc n) (suc k) h = inr (subst (λ (j : ℕ). Mem (tupleOf (getD l j noEntry)) (entriesIn l (suc i) n)) (suc-add i k ∙ sym (add-suc i k)) (in-mem l (suc i) n k (omega arith)))
+in-mem l i (suc n) (suc k) h = inr (subst (λ (j : ℕ). Mem (tupleOf (getD l j noEntry)) (entriesIn l (suc i) n))
+    (suc-add i k ∙ sym (add-suc i k)) (in-mem l (suc i) n k (omega arith)))
 
 -- what holds of each position holds one further on
-later : {A : Type 0} (f g : ℕ → A) (n i j : ℕ) → ((k : ℕ) → k < suc n → f (i + k) ≡ g (j + k)) → (k : ℕ) → k < n → f (suc i + k) ≡ g (suc j + k)
-later f g n i j h k b = ap f (suc-add i k ∙ sym (add-suc i k)) ∙ h (suc k) (omega arith) ∙ ap g (add-suc j k ∙ sym (suc-add j k))
+later : {A : Type 0} (f g : ℕ → A) (n i j : ℕ) → ((k : ℕ) → k < suc n → f (i + k) ≡ g (j + k)) → (k : ℕ) → k < n → f
+    (suc i + k) ≡ g (suc j + k)
+later f g n i j h k b = ap f (suc-add i k ∙ sym (add-suc i k)) ∙ h (suc k) (omega arith) ∙ ap g
+    (add-suc j k ∙ sym (suc-add j k))
 
 first : {A : Type 0} (f g : ℕ → A) (n i j : ℕ) → ((k : ℕ) → k < suc n → f (i + k) ≡ g (j + k)) → f i ≡ g j
 first f g n i j h = ap f (sym (add-zero i)) ∙ h 0 (omega arith) ∙ ap g (add-zero j)
 
-pub in-alike : (l m : List Entry) (n i j : ℕ) → ((k : ℕ) → k < n → getD l (i + k) noEntry ≡ getD m (j + k) noEntry) → entriesIn l i n ≡ entriesIn m j n
+pub in-alike : (l m : List Entry) (n i j : ℕ) → ((k : ℕ) → k < n → getD l (i + k) noEntry ≡ getD m (j + k) noEntry)
+    → entriesIn l i n ≡ entriesIn m j n
 unfolding entriesIn
 in-alike l m zero i j h = refl
 in-alike l m (suc n) i j h =
     let e : getD l i noEntry ≡ getD m j noEntry = first (λ x. getD l x noEntry) (λ x. getD m x noEntry) n i j h in
-    let rest : entriesIn l (suc i) n ≡ entriesIn m (suc j) n = in-alike l m n (suc i) (suc j) (later (λ x. getD l x noEntry) (λ x. getD m x noEntry) n i j h) in
+    let rest : entriesIn l (suc i) n ≡ entriesIn m (suc j) n = in-alike l m n (suc i) (suc j)
+    (later (λ x. getD l x noEntry) (λ x. getD m x noEntry) n i j h) in
     λ t. tupleOf (e t) ∷ rest t
 
 -- a row's words that are the table's entries
-pub in-words : (row : List ℕ) (l : List Entry) (n i j : ℕ) → ((k : ℕ) → k < n → entryAt row (i + k) ≡ tupleOf (getD l (j + k) noEntry)) → entriesFrom row i n ≡ entriesIn l j n
+pub in-words : (row : List ℕ) (l : List Entry) (n i j : ℕ) →
+    ((k : ℕ) → k < n → entryAt row (i + k) ≡ tupleOf (getD l (j + k) noEntry)) → entriesFrom row i n ≡ entriesIn l j n
 unfolding entriesIn entriesFrom
 in-words row l zero i j h = refl
 in-words row l (suc n) i j h =
-    let e : entryAt row i ≡ tupleOf (getD l j noEntry) = first (entryAt row) (λ x. tupleOf (getD l x noEntry)) n i j h in
-    let rest : entriesFrom row (suc i) n ≡ entriesIn l (suc j) n = in-words row l n (suc i) (suc j) (later (entryAt row) (λ x. tupleOf (getD l x noEntry)) n i j h) in
+    let e : entryAt row i ≡ tupleOf (getD l j noEntry) = first (entryAt row)
+    (λ x. tupleOf (getD l x noEntry)) n i j h in
+    let rest : entriesFrom row (suc i) n ≡ entriesIn l (suc j) n = in-words row l n (suc i) (suc j)
+    (later (entryAt row) (λ x. tupleOf (getD l x noEntry)) n i j h) in
     λ t. e t ∷ rest t
 
 -- ---- what is fetched
@@ -75,25 +84,30 @@ module _ (row : List ℕ) (table : List Entry) (from : ℕ) where
   unfolding fetched
   fetched-none = refl
 
-  pub fetched-more : (k : ℕ) → entryPut (fetched row table from k) k (tupleOf (getD table (from + k) noEntry)) ≡ fetched row table from (suc k)
+  pub fetched-more : (k : ℕ) → entryPut (fetched row table from k) k (tupleOf (getD table (from + k) noEntry))
+      ≡ fetched row table from (suc k)
   unfolding fetched
   fetched-more k = refl
 
   pub fetched-length : (n : ℕ) → length (fetched row table from n) ≡ length row
   unfolding fetched
   fetched-length zero = refl
-  fetched-length (suc k) = put-length (fetched row table from k) k (tupleOf (getD table (from + k) noEntry)) ∙ fetched-length k
+  fetched-length (suc k) = put-length (fetched row table from k) k (tupleOf (getD table (from + k) noEntry))
+      ∙ fetched-length k
 
-  pub fetched-at : (n : ℕ) → 5 * n ≤ length row → (j : ℕ) → j < n → entryAt (fetched row table from n) j ≡ tupleOf (getD table (from + j) noEntry)
+  pub fetched-at : (n : ℕ) → 5 * n ≤ length row → (j : ℕ) → j < n → entryAt (fetched row table from n) j ≡ tupleOf
+      (getD table (from + j) noEntry)
   unfolding fetched
   fetched-at (suc k) room j h = split (eqb j k)
       (λ q. let e = eqb-true j k q in
       ap (entryAt (fetched row table from (suc k))) e
-      ∙ put-at (fetched row table from k) k (tupleOf (getD table (from + k) noEntry)) (omega (arith, fetched-length k, room))
+      ∙ put-at (fetched row table from k) k (tupleOf (getD table (from + k) noEntry))
+      (omega (arith, fetched-length k, room))
       ∙ ap (λ i. tupleOf (getD table (from + i) noEntry)) (sym e))
       (λ q. let e = eqb-false j k q in
       entry-alike (fetched row table from (suc k)) (fetched row table from k) j j
-      (λ i l. put-below (fetched row table from k) k (tupleOf (getD table (from + k) noEntry)) (5 * j + i) (omega arith))
+      (λ i l. put-below (fetched row table from k) k (tupleOf (getD table (from + k) noEntry)) (5 * j + i)
+      (omega arith))
       ∙ fetched-at k (omega arith) j (omega arith))
 
 -- a row of the table's entries, and zeros behind them
@@ -101,11 +115,13 @@ abbrev pub rowFetched : (table : List Entry) → (from n : ℕ) → List ℕ
 rowFetched table from n = fetched zeroRow table from n
 
 module _ (table : List Entry) (from : ℕ) where
-  pub row-fetched-at : (n : ℕ) → n ≤ 64 → (j : ℕ) → j < n → entryAt (rowFetched table from n) j ≡ tupleOf (getD table (from + j) noEntry)
+  pub row-fetched-at : (n : ℕ) → n ≤ 64 → (j : ℕ) → j < n → entryAt (rowFetched table from n) j ≡ tupleOf
+      (getD table (from + j) noEntry)
   row-fetched-at n few = fetched-at zeroRow table from n (omega (arith, zero-length))
 
   pub fetched-entries : (n : ℕ) → n ≤ 64 → entriesFrom (rowFetched table from n) 0 n ≡ entriesIn table from n
-  fetched-entries n few = in-words (rowFetched table from n) table n 0 from (λ k h. ap (entryAt (rowFetched table from n)) (zero-add k) ∙ row-fetched-at n few k h)
+  fetched-entries n few = in-words (rowFetched table from n) table n 0 from
+      (λ k h. ap (entryAt (rowFetched table from n)) (zero-add k) ∙ row-fetched-at n few k h)
 
 -- ---- what is stored
 
@@ -118,10 +134,12 @@ stored table from row (suc k) = set (stored table from row k) (from + k) (struct
 abbrev pub structsOf : List ℕ → List Entry
 structsOf row = map structOf (entriesFrom row 0 64)
 
-struct-in : (row : List ℕ) (i n k : ℕ) → k < n → getD (map structOf (entriesFrom row i n)) k noEntry ≡ structAt row (i + k)
+struct-in : (row : List ℕ) (i n k : ℕ) → k < n → getD (map structOf (entriesFrom row i n)) k noEntry ≡ structAt row
+    (i + k)
 unfolding entriesFrom
 struct-in row i (suc n) zero h = ap (structAt row) (sym (add-zero i))
-struct-in row i (suc n) (suc k) h = struct-in row (suc i) n k (omega arith) ∙ ap (structAt row) (suc-add i k ∙ sym (add-suc i k))
+struct-in row i (suc n) (suc k) h = struct-in row (suc i) n k (omega arith) ∙ ap (structAt row)
+    (suc-add i k ∙ sym (add-suc i k))
 
 pub structs-length : (row : List ℕ) → length (structsOf row) ≡ 64
 structs-length row = length-map (entriesFrom row 0 64) structOf ∙ entries-length row 0 64
@@ -143,7 +161,8 @@ module _ (table : List Entry) (from : ℕ) (row : List ℕ) where
   stored-length zero = refl
   stored-length (suc k) = length-set (stored table from row k) (from + k) (structAt row k) ∙ stored-length k
 
-  pub stored-is : (n : ℕ) → n ≤ 64 → from + n ≤ length table → stored table from row n ≡ paste table from (structsOf row) n
+  pub stored-is : (n : ℕ) → n ≤ 64 → from + n ≤ length table → stored table from row n ≡ paste table from
+      (structsOf row) n
   unfolding stored
   stored-is zero few room = paste-zero table from (structsOf row)
   stored-is (suc k) few room =
@@ -154,7 +173,8 @@ module _ (table : List Entry) (from : ℕ) (row : List ℕ) where
 
 module _ {A : Type 0} (z : A) (d s : List A) (at n : ℕ) (room : at + n ≤ length d) (size : length s ≡ n) where
   head-length : length (take at d ++ take n s) ≡ at + n
-  head-length = length-append (take at d) (take n s) ∙ omega (arith, length-take-le at d (omega arith), length-take-le n s (omega arith))
+  head-length = length-append (take at d) (take n s) ∙ omega
+      (arith, length-take-le at d (omega arith), length-take-le n s (omega arith))
 
   pub paste-low : (k : ℕ) → k < at → getD (paste d at s n) k z ≡ getD d k z
   paste-low k h =
@@ -183,12 +203,17 @@ module _ {A : Type 0} (z : A) (d s : List A) (at n : ℕ) (room : at + n ≤ len
 -- ---- a row as document 01 has it
 
 -- words of zero are entries of zero
-none-laid : (l : List ℕ) (m i : ℕ) → ((k : ℕ) → 5 * i ≤ k → getD l k 0 ≡ 0) → map structOf (entriesFrom l i m) ≡ replicate m noEntry
+none-laid : (l : List ℕ) (m i : ℕ) → ((k : ℕ) → 5 * i ≤ k → getD l k 0 ≡ 0) → map structOf (entriesFrom l i m)
+    ≡ replicate m noEntry
 unfolding entriesFrom
 none-laid l zero i z = refl
 none-laid l (suc m) i z =
-    let e : entryAt l i ≡ ((0, 0), (0, (0, 0))) = λ u. ((z (5 * i) (omega arith) u, z (5 * i + 1) (omega arith) u), (z (5 * i + 2) (omega arith) u, (z (5 * i + 3) (omega arith) u, z (5 * i + 4) (omega arith) u))) in
-    let rest : map structOf (entriesFrom l (suc i) m) ≡ replicate m noEntry = none-laid l m (suc i) (λ k h. z k (omega arith)) in
+    let e : entryAt l i ≡ ((0, 0), (0, (0, 0))) = λ u. (
+      (z (5 * i) (omega arith) u, z (5 * i + 1) (omega arith) u),
+      (z (5 * i + 2) (omega arith) u, (z (5 * i + 3) (omega arith) u, z (5 * i + 4) (omega arith) u)),
+    ) in
+    let rest : map structOf (entriesFrom l (suc i) m) ≡ replicate m noEntry = none-laid l m (suc i)
+    (λ k h. z k (omega arith)) in
     λ u. structOf (e u) ∷ rest u
 
 map-append : {A B : Type 0} (f : A → B) (l r : List A) → map f (l ++ r) ≡ map f l ++ map f r
@@ -199,8 +224,11 @@ filled-is : (r : List theory.Entry) (m : ℕ) → length r + m ≡ 64 → filled
 filled-is r m h =
     ap (λ n. take n (r ++ replicate 64 theory.noEntry)) (sym h)
     ∙ take-append-add r (replicate 64 theory.noEntry) m
-    ∙ ap (λ l. r ++ l) (ap (take m) (sym (replicate-append-replicate m (64 - m) theory.noEntry ∙ ap (λ n. replicate n theory.noEntry) (whole m h)))
-    ∙ take-append-le m (replicate m theory.noEntry) (replicate (64 - m) theory.noEntry) (omega (arith, length-replicate m theory.noEntry)) ∙ take-all m (replicate m theory.noEntry) (omega (arith, length-replicate m theory.noEntry)))
+    ∙ ap (λ l. r ++ l) (ap (take m) (sym (replicate-append-replicate m (64 - m) theory.noEntry ∙ ap
+    (λ n. replicate n theory.noEntry) (whole m h)))
+    ∙ take-append-le m (replicate m theory.noEntry) (replicate (64 - m) theory.noEntry)
+    (omega (arith, length-replicate m theory.noEntry)) ∙ take-all m (replicate m theory.noEntry)
+    (omega (arith, length-replicate m theory.noEntry)))
   where
     whole : (m : ℕ) → length r + m ≡ 64 → m + (64 - m) ≡ 64
     whole m h = omega arith
@@ -214,13 +242,17 @@ laid [] = refl
 laid (e ∷ es) = ap (λ l. structOf e ∷ l) (laid es)
 
 -- a row of n entries with zeros behind them is the row as it stands in the table
-pub row-laid : (row : List ℕ) (n : ℕ) → n ≤ 64 → ((k : ℕ) → 5 * n ≤ k → getD row k 0 ≡ 0) → structsOf row ≡ map entryFrom (filled (map words.entryFrom (entriesFrom row 0 n)))
+pub row-laid : (row : List ℕ) (n : ℕ) → n ≤ 64 → ((k : ℕ) → 5 * n ≤ k → getD row k 0 ≡ 0) → structsOf row
+    ≡ map entryFrom (filled (map words.entryFrom (entriesFrom row 0 n)))
 row-laid row n few zeros =
-    ap (map structOf) (ap (entriesFrom row 0) (sym whole) ∙ entries-append row 0 n (64 - n) ∙ ap (λ i. entriesFrom row 0 n ++ entriesFrom row i (64 - n)) (zero-add n))
+    ap (map structOf) (ap (entriesFrom row 0) (sym whole) ∙ entries-append row 0 n (64 - n) ∙ ap
+    (λ i. entriesFrom row 0 n ++ entriesFrom row i (64 - n)) (zero-add n))
     ∙ map-append structOf (entriesFrom row 0 n) (entriesFrom row n (64 - n))
-    ∙ ap₂ (λ l m. l ++ m) (sym (laid (entriesFrom row 0 n))) (none-laid row (64 - n) n zeros ∙ sym (map-replicate entryFrom (64 - n) theory.noEntry))
+    ∙ ap₂ (λ l m. l ++ m) (sym (laid (entriesFrom row 0 n)))
+    (none-laid row (64 - n) n zeros ∙ sym (map-replicate entryFrom (64 - n) theory.noEntry))
     ∙ sym (map-append entryFrom (map words.entryFrom (entriesFrom row 0 n)) (replicate (64 - n) theory.noEntry))
-    ∙ ap (map entryFrom) (sym (filled-is (map words.entryFrom (entriesFrom row 0 n)) (64 - n) (omega (arith, length-map (entriesFrom row 0 n) words.entryFrom, entries-length row 0 n))))
+    ∙ ap (map entryFrom) (sym (filled-is (map words.entryFrom (entriesFrom row 0 n)) (64 - n)
+    (omega (arith, length-map (entriesFrom row 0 n) words.entryFrom, entries-length row 0 n))))
   where
     whole : n + (64 - n) ≡ 64
     whole = omega arith
@@ -241,7 +273,8 @@ module _ (rows : ℕ → List theory.Entry) (count : ℕ) (lent : List Entry) wh
       none = omega arith
 
   -- one row more
-  pub table-more : (b : ℕ) (r : List Entry) → b < count → 64 * count ≤ length lent → length r ≡ 64 → r ≡ map entryFrom (filled (rows b))
+  pub table-more : (b : ℕ) (r : List Entry) → b < count → 64 * count ≤ length lent → length r ≡ 64 → r ≡ map entryFrom
+      (filled (rows b))
       → paste (tableWith rows (suc b) count lent) (64 * b) r 64 ≡ tableWith rows b count lent
   unfolding tableWith
   table-more b r h room size e =
@@ -270,7 +303,8 @@ module _ (rows : ℕ → List theory.Entry) (count : ℕ) (lent : List Entry) wh
       split-up = append-assoc head rest (drop (64 * count) lent)
 
       before : take (64 * b) (head ++ rest ++ drop (64 * count) lent) ≡ take (64 * b) lent
-      before = ap (take (64 * b)) split-up ∙ take-append-le (64 * b) head (rest ++ drop (64 * count) lent) (omega (arith, head-size)) ∙ take-take (64 * b) (64 * suc b) lent (omega arith)
+      before = ap (take (64 * b)) split-up ∙ take-append-le (64 * b) head (rest ++ drop (64 * count) lent)
+          (omega (arith, head-size)) ∙ take-take (64 * b) (64 * suc b) lent (omega arith)
 
       behind : drop (64 * b + 64) (head ++ rest ++ drop (64 * count) lent) ≡ rest ++ drop (64 * count) lent
       behind = ap (drop (64 * b + 64)) split-up ∙ drop-at head (rest ++ drop (64 * count) lent) (64 * b + 64) head-size

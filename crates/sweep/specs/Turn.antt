@@ -1,4 +1,5 @@
--- One block's turn. A row made, on the words of a plan, of the rows of its targets is the row by definition (`row-is`); fetching those rows, making it and storing it is a turn
+-- One block's turn. A row made, on the words of a plan, of the rows of its targets is the row by definition (`row-is`);
+-- fetching those rows, making it and storing it is a turn
 -- (`turn-made`). Rests on Table, on rows' Rows, Steps and Begun, and on theory's sweep-turn and entry-fits.
 use mathlib.Core.Path.{_≡_, refl, sym, ap, ap₂, subst, _∙_}
 use mathlib.Core.Logic.{inl, inr}
@@ -7,7 +8,7 @@ use mathlib.Core.List.{List, [], _∷_, _++_, map, append-nil}
 use mathlib.Core.Option.{Option}
 use Prim.Native.Nat.{ℕ, zero, suc, _+_, _*_, _-_, _^_, _≤_, _<_}
 use native.Mathlib.Omega.{arith}
-use borrow.Author.Tests.{eqb-true, lt-ltb, le-ltb, ltb-true, ltb-false}
+use borrow.Author.Tests.{lt-ltb, le-ltb, ltb-true, ltb-false}
 use lib.Dec.{eqb, ltb}
 use lib.ListN.{length, getD, List·getD-eq-default}
 use lib.Seq.{paste}
@@ -30,7 +31,7 @@ use Rattle.rows.specs.declared.Entry.{Entry}
 use Rattle.rows.specs.declared.Tails.{Tails}
 use Rattle.rows.specs.Entries.{entryAt, entriesFrom, betterOf, Grown, entries-length}
 use Rattle.rows.specs.Steps.{sideOf, stepKey, stepWords, step-key, step-words}
-use Rattle.rows.specs.Rows.{sourceOf, manyOf, tailsBy, pouredBy, leftFrom, left-grows, Ready}
+use Rattle.rows.specs.Rows.{tailsBy, pouredBy, leftFrom, left-grows, Ready}
 use Rattle.rows.specs.Begun.{Holds, begunWith, zeroRow, zero-length}
 use Rattle.sweep.specs.declared.Drive.{Drive}
 use Rattle.sweep.specs.declared.Sources.{Sources}
@@ -41,12 +42,14 @@ use Rattle.sweep.specs.Table.{entriesIn, rowFetched, row-fetched-at, fet
 -- ---- pouring by steps that agree on the entries
 
 module _ {K B : Type 0} (lt : K → K → Bool) (bt : B → B → Bool) (s z : K → Option K) (g h : B → B) where
-  pub pour-same : (l : List (K × B)) → ((e : K × B) → Mem e l → (s (e .0) ≡ z (e .0)) × (g (e .1) ≡ h (e .1))) → (r : List (K × B)) → pour lt bt s g l r ≡ pour lt bt z h l r
+  pub pour-same : (l : List (K × B)) → ((e : K × B) → Mem e l → (s (e .0) ≡ z (e .0)) × (g (e .1) ≡ h (e .1))) →
+      (r : List (K × B)) → pour lt bt s g l r ≡ pour lt bt z h l r
   unfolding pour
   pour-same [] f r = refl
   pour-same (e ∷ l) f r =
       let (p, q) = f e (inl refl) in
-      ap₂ (λ o v. pour lt bt s g l (push lt bt o v r)) p q ∙ pour-same l (λ d m. f d (inr m)) (push lt bt (z (e .0)) (h (e .1)) r)
+      ap₂ (λ o v. pour lt bt s g l (push lt bt o v r)) p q ∙ pour-same l (λ d m. f d (inr m))
+      (push lt bt (z (e .0)) (h (e .1)) r)
 
 -- ---- the row by definition
 
@@ -55,20 +58,25 @@ abbrev pub rowOf : Body → (cost : ℕ → ℕ → ℕ) → ℕ → List (Key �
 rowOf body cost t = rowWords body (conflicts body) cost heavier t
 
 -- the costs of any body with this plan keep to its range
-pub range-of : (plan : List ℕ) (count : ℕ) → PlanOf plan count → (body : Body) (cost : ℕ → ℕ → ℕ) → Planned body cost plan → body .count ≡ count → Range (body .count) cost costLimit
+pub range-of : (plan : List ℕ) (count : ℕ) → PlanOf plan count → (body : Body) (cost : ℕ → ℕ → ℕ)
+    → Planned body cost plan → body .count ≡ count → Range (body .count) cost costLimit
 range-of plan count of body cost p e = record {
   most = of .range .most;
   each = λ b way h. let l : b < of .body .count = omega (arith, of .size) in
-      subst (λ (c : ℕ). c ≤ of .range .most b) (sym (of .planned .costs b way l) ∙ p .costs b way h) (of .range .each b way l);
+      subst (λ (c : ℕ). c ≤ of .range .most b) (sym (of .planned .costs b way l) ∙ p .costs b way h)
+      (of .range .each b way l);
   all = subst (λ (n : ℕ). upTo (of .range .most) n ≤ costLimit) (of .size ∙ sym e) (of .range .all);
 }
 
 module _ (body : Body) (g : Sound body) (cost : ℕ → ℕ → ℕ) (range : Range (body .count) cost costLimit) where
   -- how large the entries of a row are
-  pub entry-small : (t : ℕ) → t < body .count → (e : Key × Words) → Mem e (rowOf body cost t) → Fits body (range .most) t e
-  entry-small = entry-fits body (g .onward) (conflicts body) (listing body (g .onward)) cost (range .most) (range .each) heavier heaviest
+  pub entry-small : (t : ℕ) → t < body .count → (e : Key × Words) → Mem e (rowOf body cost t) → Fits body
+      (range .most) t e
+  entry-small = entry-fits body (g .onward) (conflicts body) (listing body (g .onward)) cost (range .most)
+      (range .each) heavier heaviest
 
-  module _ (plan : List ℕ) (fits : (k : ℕ) → getD plan k 0 < 2 ^ 64) (planned : Planned body cost plan) (rows : ℕ → List (Key × Words)) (beyond : (t : ℕ) → 64 ≤ t → rows t ≡ [])
+  module _ (plan : List ℕ) (fits : (k : ℕ) → getD plan k 0 < 2 ^ 64) (planned : Planned body cost plan)
+      (rows : ℕ → List (Key × Words)) (beyond : (t : ℕ) → 64 ≤ t → rows t ≡ [])
       (b : ℕ) (inside : b < body .count) (above : (t : ℕ) → b < t → t < body .count → rows t ≡ rowOf body cost t) where
     -- by each way the row of its target
     abbrev tails : ℕ → List (Key × Words)
@@ -82,13 +90,19 @@ module _ (body : Body) (g : Sound body) (cost : ℕ → ℕ → ℕ) (range : Ra
         let t = targetAt plan b way in
         let up = g .onward .above b (way, t) m in
         let on = g .onward .inside b (way, t) m in
-        pour-same keyBefore betterOf (stepKey (sideOf plan b way 1) (sideOf plan b way 2)) (stepBack body (conflicts body) (b, way))
-        (stepWords (sideOf plan b way 1) (sideOf plan b way 2) (costAt plan b way)) (growWords cost (b, way)) (tails way)
-        (λ e i. let f = entry-small t on e (subst (Mem e) (above t up on) i) in
-        (step-key body g plan fits cost planned b way inside v (e .0) (f .jumps) (f .falls), step-words body g plan fits cost planned b way inside v (costAt plan b way) (planned .costs b way inside) (e .1))) r
+        pour-same keyBefore betterOf (stepKey (sideOf plan b way 1) (sideOf plan b way 2))
+        (stepBack body (conflicts body) (b, way))
+        (stepWords (sideOf plan b way 1) (sideOf plan b way 2) (costAt plan b way)) (growWords cost (b, way))
+        (tails way)
+        (λ e i. let f = entry-small t on e (subst (Mem e) (above t up on) i) in (
+          step-key body g plan fits cost planned b way inside v (e .0) (f .jumps) (f .falls),
+          step-words body g plan fits cost planned b way inside v (costAt plan b way) (planned .costs b way inside)
+              (e .1),
+        )) r
 
     -- a way with none
-    none-poured : (way : ℕ) → 64 ≤ targetAt plan b way → (r : List (Key × Words)) → pouredBy plan b way (tails way) r ≡ r
+    none-poured : (way : ℕ) → 64 ≤ targetAt plan b way → (r : List (Key × Words)) → pouredBy plan b way (tails way) r
+        ≡ r
     unfolding pouredBy pour
     none-poured way h r = ap (λ l. pouredBy plan b way l r) (beyond (targetAt plan b way) h)
 
@@ -96,7 +110,8 @@ module _ (body : Body) (g : Sound body) (cost : ℕ → ℕ → ℕ) (range : Ra
     filling os r = fillWords body (conflicts body) cost heavier 64 rows b os r
 
     -- the ways of the plan, one after the other
-    one-way : (way : ℕ) → IsWay way → ((o : ℕ × ℕ) → Mem o (exitBy way (targetAt plan b way)) → Mem o (exits body b)) → (rest : List (ℕ × ℕ)) (r : List (Key × Words))
+    one-way : (way : ℕ) → IsWay way → ((o : ℕ × ℕ) → Mem o (exitBy way (targetAt plan b way)) → Mem o (exits body b)) →
+        (rest : List (ℕ × ℕ)) (r : List (Key × Words))
         → filling (exitBy way (targetAt plan b way) ++ rest) r ≡ filling rest (pouredBy plan b way (tails way) r)
     unfolding fillWords
     one-way way v among rest r = by (ltb t 64) refl
@@ -104,8 +119,11 @@ module _ (body : Body) (g : Sound body) (cost : ℕ → ℕ → ℕ) (range : Ra
         t : ℕ
         t = targetAt plan b way
 
-        by : (c : Bool) → ltb t 64 ≡ c → filling (cond c ((way, t) ∷ []) [] ++ rest) r ≡ filling rest (pouredBy plan b way (tails way) r)
-        by true e = ap (filling rest) (sym (way-poured way v (among (way, t) (subst (λ (c : Bool). Mem {A = ℕ × ℕ} (way, t) (cond c ((way, t) ∷ []) [])) (sym e) (inl refl))) r))
+        by : (c : Bool) → ltb t 64 ≡ c → filling (cond c ((way, t) ∷ []) [] ++ rest) r ≡ filling rest
+            (pouredBy plan b way (tails way) r)
+        by true e = ap (filling rest) (sym (way-poured way v
+            (among (way, t) (subst (λ (c : Bool). Mem {A = ℕ × ℕ} (way, t) (cond c ((way, t) ∷ []) [])) (sym e)
+            (inl refl))) r))
         by false e = ap (filling rest) (sym (none-poured way (ltb-false t 64 e) r))
 
     ways : (r : List (Key × Words)) → filling (exits body b) r ≡ leftFrom plan b tails 1 r
@@ -113,15 +131,20 @@ module _ (body : Body) (g : Sound body) (cost : ℕ → ℕ → ℕ) (range : Ra
     ways r =
         let e = planned .ways b inside in
         ap (λ os. filling os r) e
-        ∙ one-way 1 (omega arith, omega arith) (λ o m. subst (Mem o) (sym e) (mem-left o (exitBy 1 (targetAt plan b 1)) (exitBy 2 (targetAt plan b 2)) m)) (exitBy 2 (targetAt plan b 2)) r
+        ∙ one-way 1 (omega arith, omega arith) (λ o m. subst (Mem o) (sym e)
+        (mem-left o (exitBy 1 (targetAt plan b 1)) (exitBy 2 (targetAt plan b 2)) m))
+        (exitBy 2 (targetAt plan b 2)) r
         ∙ ap (λ os. filling os (pouredBy plan b 1 (tails 1) r)) (sym (append-nil (exitBy 2 (targetAt plan b 2))))
-        ∙ one-way 2 (omega arith, omega arith) (λ o m. subst (Mem o) (sym e) (mem-right o (exitBy 1 (targetAt plan b 1)) (exitBy 2 (targetAt plan b 2)) m)) [] (pouredBy plan b 1 (tails 1) r)
+        ∙ one-way 2 (omega arith, omega arith) (λ o m. subst (Mem o) (sym e)
+        (mem-right o (exitBy 1 (targetAt plan b 1)) (exitBy 2 (targetAt plan b 2)) m)) []
+        (pouredBy plan b 1 (tails 1) r)
 
     -- the row is built as the theory builds it, so it is the row by definition
     pub row-is : leftFrom plan b tails 1 (begunWith plan (body .count) b) ≡ rowOf body cost b
     row-is =
         sym (ways (begunWith plan (body .count) b))
-        ∙ ap (λ c. filling (exits body b) (cond (eqb (suc b) (body .count)) ((noEdges, (c, (0, 0))) ∷ []) [])) (planned .costs b 0 inside)
+        ∙ ap (λ c. filling (exits body b) (cond (eqb (suc b) (body .count)) ((noEdges, (c, (0, 0))) ∷ []) []))
+        (planned .costs b 0 inside)
         ∙ sweep-turn body g cost heavier heaviest rows b inside above
 
 -- ---- what the covered functions make
@@ -165,8 +188,10 @@ pub record BuiltAs (r : List (Key × Words)) (b : ℕ) (built : Built) : Type 0 
   pub from-is : built .from ≡ 64 * b
   pub entries-is : built .entries ≡ wholeOf (built .held)
 
-pub built-as : (plan : List ℕ) (b : ℕ) (tails : ℕ → List (Key × Words)) (r : List (Key × Words)) (row : List ℕ) (n : ℕ) → Holds r row n → (new : List ℕ) (m : ℕ)
-    → Grown (leftFrom plan b tails 1 (entriesFrom row 0 n)) row new m → length new ≡ 320 → (whole : ℕ) → whole ≡ wholeOf m
+pub built-as : (plan : List ℕ) (b : ℕ) (tails : ℕ → List (Key × Words)) (r : List (Key × Words)) (row : List ℕ) (n : ℕ)
+    → Holds r row n → (new : List ℕ) (m : ℕ)
+    → Grown (leftFrom plan b tails 1 (entriesFrom row 0 n)) row new m → length new ≡ 320 → (whole : ℕ) → whole
+    ≡ wholeOf m
     → BuiltAs (leftFrom plan b tails 1 r) b (record { held = m; from = 64 * b; entries = whole; words = new })
 built-as plan b tails r row n h new m grown size whole e = record {
   whole = λ few. record {
@@ -181,7 +206,14 @@ built-as plan b tails r row n h new m grown size whole e = record {
 }
   where
     longer : m ≤ 64 → n ≤ m
-    longer few = omega (arith, left-grows plan b tails 1 (entriesFrom row 0 n), entries-length row 0 n, ap length (grown .held few), entries-length new 0 m)
+    longer few = omega (
+      arith,
+      left-grows plan b tails 1 (entriesFrom row 0 n),
+      entries-length row 0 n,
+      ap length
+          (grown .held few),
+      entries-length new 0 m,
+    )
 
 -- ---- one turn
 
@@ -193,7 +225,8 @@ pub record TurnReady (plan : List ℕ) (table : List Entry) (at : Drive) : Type 
   pub few : (t : ℕ) → getD (at .lengths) t 0 ≤ 64
   pub room : 64 * at .b ≤ length table
   pub inside : (t i : ℕ) → i < getD (at .lengths) t 0 → 64 * t + i < length table
-  pub light : (way t i : ℕ) → i < getD (at .lengths) t 0 → costAt plan (at .b - 1) way + getD table (64 * t + i) noEntry .way .weight < 2 ^ 64
+  pub light : (way t i : ℕ) → i < getD (at .lengths) t 0 → costAt plan (at .b - 1) way + getD table
+      (64 * t + i) noEntry .way .weight < 2 ^ 64
 
 -- a row of up to 64 entries stands in the table at block b
 pub record Stored (r : List (Key × Words)) (table new : List Entry) (b n : ℕ) : Type 0 where
@@ -233,7 +266,8 @@ module _ (plan : List ℕ) (count : ℕ) (at : Drive) (table : List Entry) (t : 
     source-light : (way i : ℕ) → i < many → costAt plan block way + entryAt source i .1 .0 < 2 ^ 64
     source-light way i h =
         let e : entryAt source i .1 .0 ≡ getD table (64 * target + i) noEntry .way .weight =
-        ap (λ (e : Key × Words). e .1 .0) (row-fetched-at table (firstOf target) many (t .few target) i h) ∙ ap (λ f. getD table (f + i) noEntry .way .weight) (known i h) in
+        ap (λ (e : Key × Words). e .1 .0) (row-fetched-at table (firstOf target) many (t .few target) i h) ∙ ap
+        (λ f. getD table (f + i) noEntry .way .weight) (known i h) in
         subst (λ (n : ℕ). costAt plan block way + n < 2 ^ 64) (sym e) (t .light way target i h)
 
     source-row : entriesFrom source 0 many ≡ rowIn table (at .lengths) target
@@ -258,20 +292,24 @@ module _ (plan : List ℕ) (count : ℕ) (at : Drive) (table : List Entry) (t : 
 
   made-is : Row s jump-source fall-source ≡ rowFrom plan count table (at .lengths) block
   unfolding leftFrom
-  made-is = λ i. pouredBy plan block 2 (source-row (targetAt plan block 2) i) (pouredBy plan block 1 (source-row (targetAt plan block 1) i) (begunWith plan count block))
+  made-is = λ i. pouredBy plan block 2 (source-row (targetAt plan block 2) i)
+      (pouredBy plan block 1 (source-row (targetAt plan block 1) i) (begunWith plan count block))
 
   ready : Ready plan block (tailsIn s) jump-source fall-source
   ready = record {
     size = t .size;
     below = omega (arith, t .some, t .most);
-    first-size = fetched-length zeroRow table (firstOf (targetAt plan block 1)) (many (targetAt plan block 1)) ∙ zero-length;
-    second-size = fetched-length zeroRow table (firstOf (targetAt plan block 2)) (many (targetAt plan block 2)) ∙ zero-length;
+    first-size = fetched-length zeroRow table (firstOf (targetAt plan block 1)) (many (targetAt plan block 1))
+        ∙ zero-length;
+    second-size = fetched-length zeroRow table (firstOf (targetAt plan block 2)) (many (targetAt plan block 2))
+        ∙ zero-length;
     jumps-few = t .few (targetAt plan block 1);
     falls-few = t .few (targetAt plan block 2);
     light = λ way i. by way i (eqb way 1);
   }
     where
-      by : (way i : ℕ) (c : Bool) → i < cond c (many (targetAt plan block 1)) (many (targetAt plan block 2)) → costAt plan block way + entryAt (cond c jump-source fall-source) i .1 .0 < 2 ^ 64
+      by : (way i : ℕ) (c : Bool) → i < cond c (many (targetAt plan block 1)) (many (targetAt plan block 2))
+          → costAt plan block way + entryAt (cond c jump-source fall-source) i .1 .0 < 2 ^ 64
       by way i true h = source-light (targetAt plan block 1) way i h
       by way i false h = source-light (targetAt plan block 2) way i h
 
@@ -284,16 +322,20 @@ module _ (plan : List ℕ) (count : ℕ) (at : Drive) (table : List Entry) (t : 
 
     store-fits : (built .entries ≤ 64) × (built .from + built .entries ≤ length table)
     store-fits = split (ltb 64 (built .held))
-        (λ q. let e = stores-none (ltb-true 64 (built .held) q) in (omega arith, omega (arith, is .from-is, t .some, t .room)))
-        (λ q. let e = stores-all (ltb-false 64 (built .held) q) in (omega arith, omega (arith, is .from-is, t .some, t .room)))
+        (λ q. let e = stores-none (ltb-true 64 (built .held) q) in
+        (omega arith, omega (arith, is .from-is, t .some, t .room)))
+        (λ q. let e = stores-all (ltb-false 64 (built .held) q) in
+        (omega arith, omega (arith, is .from-is, t .some, t .room)))
 
-    turned : (new : List Entry) → new ≡ stored table (built .from) (built .words) (built .entries) → turnedBy plan count at table new (built .held)
+    turned : (new : List Entry) → new ≡ stored table (built .from) (built .words) (built .entries)
+        → turnedBy plan count at table new (built .held)
     unfolding stored
     turned new e = record {
       whole = λ few. record {
         row = built .words;
         holds = is .whole few;
-        table-is = e ∙ ap₂ (λ f n. stored table f (built .words) n) (is .from-is) (stores-all few) ∙ stored-is table (64 * block) (built .words) 64 (omega arith) (omega (arith, t .some, t .room));
+        table-is = e ∙ ap₂ (λ f n. stored table f (built .words) n) (is .from-is) (stores-all few) ∙ stored-is table
+            (64 * block) (built .words) 64 (omega arith) (omega (arith, t .some, t .room));
       };
       over = λ m. (is .over m, e ∙ ap (stored table (built .from) (built .words)) (stores-none m));
     }
@@ -301,19 +343,24 @@ module _ (plan : List ℕ) (count : ℕ) (at : Drive) (table : List Entry) (t : 
   -- the same, for what the covered functions returned
   module _ (r : Sources) (r-is : r ≡ s) where
     pub jump-asked : (r .jumps ≤ 64) × ((k : ℕ) → k < r .jumps → r .jump + k < length table)
-    jump-asked = subst (λ (s : Sources). (s .jumps ≤ 64) × ((k : ℕ) → k < s .jumps → s .jump + k < length table)) (sym r-is) (t .few (targetAt plan block 1), source-inside (targetAt plan block 1))
+    jump-asked = subst (λ (s : Sources). (s .jumps ≤ 64) × ((k : ℕ) → k < s .jumps → s .jump + k < length table))
+        (sym r-is) (t .few (targetAt plan block 1), source-inside (targetAt plan block 1))
 
     pub fall-asked : (r .falls ≤ 64) × ((k : ℕ) → k < r .falls → r .fall + k < length table)
-    fall-asked = subst (λ (s : Sources). (s .falls ≤ 64) × ((k : ℕ) → k < s .falls → s .fall + k < length table)) (sym r-is) (t .few (targetAt plan block 2), source-inside (targetAt plan block 2))
+    fall-asked = subst (λ (s : Sources). (s .falls ≤ 64) × ((k : ℕ) → k < s .falls → s .fall + k < length table))
+        (sym r-is) (t .few (targetAt plan block 2), source-inside (targetAt plan block 2))
 
-    module _ (first second : List ℕ) (first-is : first ≡ rowFetched table (r .jump) (r .jumps)) (second-is : second ≡ rowFetched table (r .fall) (r .falls)) where
+    module _ (first second : List ℕ) (first-is : first ≡ rowFetched table (r .jump) (r .jumps))
+        (second-is : second ≡ rowFetched table (r .fall) (r .falls)) where
       abbrev Asked : Sources → List ℕ → List ℕ → Type 0
       Asked s first second = Ready plan (s .b) (tailsIn s) first second
 
       pub make-asked : Asked r first second
       make-asked =
-          subst (λ (l : List ℕ). Asked r l second) (sym first-is) (subst (λ (l : List ℕ). Asked r (rowFetched table (r .jump) (r .jumps)) l) (sym second-is)
-          (subst (λ (s : Sources). Asked s (rowFetched table (s .jump) (s .jumps)) (rowFetched table (s .fall) (s .falls))) (sym r-is) ready))
+          subst (λ (l : List ℕ). Asked r l second) (sym first-is)
+          (subst (λ (l : List ℕ). Asked r (rowFetched table (r .jump) (r .jumps)) l) (sym second-is)
+          (subst (λ (s : Sources). Asked s (rowFetched table (s .jump) (s .jumps))
+          (rowFetched table (s .fall) (s .falls))) (sym r-is) ready))
 
       abbrev Made : Built → Sources → List ℕ → List ℕ → Type 0
       Made built s first second = BuiltAs (Row s first second) (s .b) built
@@ -322,13 +369,16 @@ module _ (plan : List ℕ) (count : ℕ) (at : Drive) (table : List Entry) (t : 
         made : BuiltAs (rowFrom plan count table (at .lengths) block) block built
         made =
             subst (λ (l : List (Key × Words)). BuiltAs l block built) made-is
-            (subst (λ (x : Sources). Made built x (rowFetched table (x .jump) (x .jumps)) (rowFetched table (x .fall) (x .falls))) r-is
-            (subst (λ (l : List ℕ). Made built r (rowFetched table (r .jump) (r .jumps)) l) second-is (subst (λ (l : List ℕ). Made built r l second) first-is is)))
+            (subst (λ (x : Sources). Made built x (rowFetched table (x .jump) (x .jumps))
+            (rowFetched table (x .fall) (x .falls))) r-is
+            (subst (λ (l : List ℕ). Made built r (rowFetched table (r .jump) (r .jumps)) l) second-is
+            (subst (λ (l : List ℕ). Made built r l second) first-is is)))
 
         pub store-asked : (built .entries ≤ 64) × (built .from + built .entries ≤ length table)
         store-asked = store-fits built made
 
-        pub turn-made : (new : List Entry) → new ≡ stored table (built .from) (built .words) (built .entries) → turnedBy plan count at table new (built .held)
+        pub turn-made : (new : List Entry) → new ≡ stored table (built .from) (built .words) (built .entries)
+            → turnedBy plan count at table new (built .held)
         turn-made new e = turned built made new e
 
 -- a struct's array of words has its words as they are

@@ -15,6 +15,7 @@ pub mod runs
 pub mod Main
 -- What the walks need of a body, as words; how large weights are.
 pub mod Plan
+pub mod PlanWays
 pub mod Range
 -- The theorems' files are named from here too, without their folder.
 pub use Rattle.theory.specs.machines.Machine

@@ -29,24 +29,13 @@ use Rattle.theory.specs.SweepWords.{Words}
 use Rattle.theory.specs.WalkWords.{advance, finish, nothing}
 use Rattle.theory.specs.Main.{walk-answer}
 use Rattle.theory.specs.Range.{upTo, up-next, up-on}
+use Rattle.theory.specs.PlanWays.{by-way, by-jump, by-fall}
 use Rattle.theory.specs.Plan.{targetAt, costAt, IsWay, Planned, PlanOf}
 use Rattle.walk.specs.Terms.{Found, routeIn, soFar, tallied, Standing, Barred, Entered, Barring, walkFrom}
 use Rattle.walk.specs.Terms.{Walks, isOpen, Took, Searched}
 use Rattle.walk.specs.Terms.Took.{stays, goes}
 
 -- ---- the two ways, and the two sides of a set of edges
-
-pub by-way : (P : ℕ → Type 0) → P 1 → P 2 → (way : ℕ) → IsWay way → P way
-by-way P j f zero (l, h) = let z : ⊥ = omega arith in absurd z
-by-way P j f (suc zero) w = j
-by-way P j f (suc (suc zero)) w = f
-by-way P j f (suc (suc (suc n))) (l, h) = let z : ⊥ = omega arith in absurd z
-
-pub by-jump : IsWay 1
-by-jump = (omega arith, omega arith)
-
-pub by-fall : IsWay 2
-by-fall = (omega arith, omega arith)
 
 -- what is done to both sides of a set of edges alike
 pub by-sides : (s r : Key) (done : (k side : ℕ) → Bool → Bool) → ((k : ℕ) → bit (r .0) k ≡ done k 1 (bit (s .0) k))

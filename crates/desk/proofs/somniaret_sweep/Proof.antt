@@ -11,7 +11,8 @@ returns c =
     let start = swept .before .before .before .before in
     let own = swept .sweep-own .ensures in (
       own .0,
-      subst (λ (v : Values). SweepOwed (start .args .bytes .now) (start .args .route .now) ownTable (record { values = v; route = swept .sweep-own .last .1 .0; table = own .0 }))
+      subst (λ (v : Values). SweepOwed (start .args .bytes .now) (start .args .route .now) ownTable
+          (record { values = v; route = swept .sweep-own .last .1 .0; table = own .0 }))
           (sym (c .of-sweep .ensures)) (own .1),
     )
 

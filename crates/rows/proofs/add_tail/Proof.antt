@@ -1,7 +1,6 @@
 -- `rows::add_tail` meets its contract.
 use mathlib.Core.Path.{sym, subst}
 use mathlib.Core.List.{List}
-use native.Mathlib.Omega.{arith}
 use Rattle.theory.specs.Row.{Key}
 use Rattle.theory.specs.SweepWords.{Words}
 use Rattle.rows.specs.Entries.{entriesFrom, Grown}
@@ -24,7 +23,8 @@ returns c =
     let a = start .args in
     let r = entriesFrom (a .row .now) 0 (a .held) in
     subst (λ (l : List (Key × Words)). Grown l (a .row .now) (a .row .now) (a .held))
-    (sym (pushed-dropped (a .jumps) (a .falls) (a .cost) (tupleOf (a .tail)) r (both .before .hits .result) (both .hits2 .result) (both .before .hits .ensures) (both .hits2 .ensures) (c .if1 .taken)))
+    (sym (pushed-dropped (a .jumps) (a .falls) (a .cost) (tupleOf (a .tail)) r (both .before .hits .result)
+    (both .hits2 .result) (both .before .hits .ensures) (both .hits2 .ensures) (c .if1 .taken)))
     (grown-none (a .row .now) (a .held) (start .pre .0 .1))
 
 add-t10 : tie.Need-add-t10
@@ -51,8 +51,10 @@ returns-2 c =
     let a = both .before .before .before .args in
     let r = entriesFrom (a .row .now) 0 (a .held) in
     subst (λ (l : List (Key × Words)). Grown l (a .row .now) (put .insert .last .0) (put .insert .result))
-    (sym (pushed-kept (a .jumps) (a .falls) (a .cost) (tupleOf (a .tail)) r (both .before .hits .result) (both .hits2 .result) (both .before .hits .ensures) (both .hits2 .ensures)
-    (opens .before .opened .result) (opens .opened2 .result) (opens .before .opened .ensures) (opens .opened2 .ensures) (kept .if1 .left)))
+    (sym (pushed-kept (a .jumps) (a .falls) (a .cost) (tupleOf (a .tail)) r (both .before .hits .result)
+    (both .hits2 .result) (both .before .hits .ensures) (both .hits2 .ensures)
+    (opens .before .opened .result) (opens .opened2 .result) (opens .before .opened .ensures) (opens .opened2 .ensures)
+    (kept .if1 .left)))
     (put .insert .ensures)
 
 pub add-tail-spec : {M : Type 1} → statement M

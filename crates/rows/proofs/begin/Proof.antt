@@ -1,5 +1,5 @@
 -- `rows::begin` meets its contract.
-use mathlib.Core.Path.{_≡_, refl, sym, ap, subst, _∙_}
+use mathlib.Core.Path.{sym, ap, subst, _∙_}
 use mathlib.Core.List.{List}
 use Prim.Native.Nat.{ℕ}
 use native.Mathlib.Numerals.{add-one}
@@ -7,7 +7,7 @@ use native.Mathlib.Omega.{arith}
 use lib.ListN.{length}
 use Rattle.theory.specs.Edges.{noEdges}
 use Rattle.rows.specs.Entries.{entryPut}
-use Rattle.rows.specs.Begun.{zeroRow, zero-length, Holds, begunWith, begun-last, begun-other}
+use Rattle.rows.specs.Begun.{zero-length, Holds, begunWith, begun-last, begun-other}
 use borrow.Author.Needs.{needs}
 use Rattle.rows.proofs.begin.Statement.{statement}
 use Rattle.rows.proofs.begin.Tie as tie

@@ -15,10 +15,15 @@ returns-2 : tie.Need-returns-2
 returns-2 c =
     let lighter = c .before .before .before in
     let a = lighter .before .before .before .args in
-    rw (le-ltb (a .other .weight) (a .one .weight) (lighter .if1 .left), lt-ltb (a .one .weight) (a .other .weight) (c .if2 .taken))
+    rw (
+      le-ltb (a .other .weight) (a .one .weight) (lighter .if1 .left),
+      lt-ltb (a .one .weight) (a .other .weight)
+          (c .if2 .taken),
+    )
 
 cast-has : tie.Need-cast-has
-cast-has c = let a = c .before .before .before .before .before .before .before .before .args in omega (arith, trailing-le 64 (bitXor (a .one .jumped) (a .other .jumped)))
+cast-has c = let a = c .before .before .before .before .before .before .before .before .args in omega
+    (arith, trailing-le 64 (bitXor (a .one .jumped) (a .other .jumped)))
 
 has-requires : tie.Need-has-requires
 has-requires c κs = search needs
@@ -29,7 +34,11 @@ returns-3 c =
     let equal = c .before .before .before in
     let lighter = equal .before .before .before in
     let a = lighter .before .before .before .args in
-    rw (le-ltb (a .other .weight) (a .one .weight) (lighter .if1 .left), le-ltb (a .one .weight) (a .other .weight) (equal .if2 .left)) (c .has .ensures)
+    rw (
+      le-ltb (a .other .weight) (a .one .weight) (lighter .if1 .left),
+      le-ltb (a .one .weight) (a .other .weight)
+          (equal .if2 .left),
+    ) (c .has .ensures)
 
 pub better-spec : {M : Type 1} → statement M
 better-spec = tie.close (tie.spec returns returns-2 cast-has has-requires returns-3)

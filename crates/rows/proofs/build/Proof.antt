@@ -1,12 +1,10 @@
--- `rows::build` meets its contract. The outer loop's invariant: with the ways from this one on, the row is the whole one; the inner loop's: with the tails from i on, it is
+-- `rows::build` meets its contract. The outer loop's invariant: with the ways from this one on, the row is the whole
+-- one; the inner loop's: with the tails from i on, it is
 -- the row with all tails by this way. The measures are the ways and the tails that are left.
 use mathlib.Core.Path.{_≡_, sym, ap, subst, _∙_}
-use mathlib.Core.List.{List}
 use Prim.Native.Nat.{ℕ, _+_, _-_, _^_, _≤_, _<_}
 use native.Mathlib.Omega.{arith}
 use lib.ListN.{length}
-use Rattle.theory.specs.Row.{Key}
-use Rattle.theory.specs.SweepWords.{Words}
 use Rattle.rows.specs.declared.Entry.{Entry}
 use Rattle.rows.specs.Entries.{entryAt, entriesFrom, Grown}
 use Rattle.rows.specs.Structs.{tupleOf}
@@ -16,14 +14,18 @@ use Rattle.rows.proofs.build.Tie as tie
 
 abbrev Inv-loop : tie.InvT-loop
 Inv-loop plan b tails first second row₀ begun held₀ way jumps falls cost many i₀ row held i =
-    AtTail jumps falls cost (sourceOf first second way) many (poured jumps falls cost (entriesFrom (sourceOf first second way) 0 many) (entriesFrom row₀ 0 held₀)) row₀ row held i × (i ≤ many)
+    AtTail jumps falls cost (sourceOf first second way) many
+    (poured jumps falls cost (entriesFrom (sourceOf first second way) 0 many)
+    (entriesFrom row₀ 0 held₀)) row₀ row held i × (i ≤ many)
 
 abbrev μ-loop : tie.MeasureT-loop
 μ-loop plan b tails first second row₀ begun held₀ way jumps falls cost many i₀ row held i = many - i
 
 abbrev Inv-ways : tie.InvT-ways
 Inv-ways plan b tails first second row₀ begun held₀ way₀ row held way =
-    Filling (leftFrom plan b (tailsBy tails first second) way) (leftFrom plan b (tailsBy tails first second) 1 (entriesFrom row₀ 0 held₀)) row₀ row held × ((0 < way) × (way ≤ 3))
+    Filling (leftFrom plan b (tailsBy tails first second) way)
+    (leftFrom plan b (tailsBy tails first second) 1 (entriesFrom row₀ 0 held₀)) row₀ row held ×
+    ((0 < way) × (way ≤ 3))
 
 abbrev μ-ways : tie.MeasureT-ways
 μ-ways plan b tails first second row₀ begun held₀ way₀ row held way = 3 - way
@@ -34,7 +36,8 @@ start c = c .before .before .before .before .before .before .before .before .bef
 
 -- a tail of the target's row, and there are at most 64
 inside : (c : tie.In-loop Inv-loop μ-loop Inv-ways μ-ways)
-    → (c .before .loop .i < manyOf (start c .args .tails) (c .before .before .before .before .before .before .before .ways .way)) × (c .before .loop .i < 64)
+    → (c .before .loop .i < manyOf (start c .args .tails)
+    (c .before .before .before .before .before .before .before .ways .way)) × (c .before .loop .i < 64)
 inside c =
     let way = c .before .before .before .before .before .before .before .ways .way in
     let a = start c .args in
@@ -42,13 +45,16 @@ inside c =
     omega (arith, c .loop-test .taken, c .before .before .many-of .ensures, few)
 
 -- its weight with the cost fits
-light : (c : tie.After-tail-of Inv-loop μ-loop Inv-ways μ-ways) → c .before .before .before .before .cost .result + c .tail-of .result .way .weight < 2 ^ 64
+light : (c : tie.After-tail-of Inv-loop μ-loop Inv-ways μ-ways)
+    → c .before .before .before .before .cost .result + c .tail-of .result .way .weight < 2 ^ 64
 light c =
     let turn = c .before in
     let way = turn .before .before .before .before .before .before .before .ways .way in
     let a = start turn .args in
-    subst (λ (e : Entry). c .before .before .before .before .cost .result + e .way .weight < 2 ^ 64) (sym (c .tail-of .ensures))
-    (subst (λ (n : ℕ). n + entryAt (sourceOf (a .first .now) (a .second .now) way) (turn .before .loop .i) .1 .0 < 2 ^ 64) (sym (c .before .before .before .before .cost .ensures))
+    subst (λ (e : Entry). c .before .before .before .before .cost .result + e .way .weight < 2 ^ 64)
+    (sym (c .tail-of .ensures))
+    (subst (λ (n : ℕ). n + entryAt (sourceOf (a .first .now) (a .second .now) way)
+    (turn .before .loop .i) .1 .0 < 2 ^ 64) (sym (c .before .before .before .before .cost .ensures))
     (start turn .pre .0 .light way (turn .before .loop .i) (inside turn .0)))
 
 -- after the call in it: the row is as long as before, and has the tail
@@ -60,25 +66,33 @@ grown : (c : tie.After-add-tail Inv-loop μ-loop Inv-ways μ-ways)
     let costed = turn .before .before .before in
     let a = start turn .args in
     let way = costed .before .before .before .before .ways .way in
-    Grown (pushed (costed .before .before .side-of .result) (costed .before .side-of2 .result) (costed .cost .result) (entryAt (sourceOf (a .first .now) (a .second .now) way) (turn .before .loop .i)) (entriesFrom (turn .before .loop .row) 0 (turn .before .loop .held)))
+    Grown (pushed (costed .before .before .side-of .result) (costed .before .side-of2 .result) (costed .cost .result)
+    (entryAt (sourceOf (a .first .now) (a .second .now) way) (turn .before .loop .i))
+    (entriesFrom (turn .before .loop .row) 0 (turn .before .loop .held)))
     (turn .before .loop .row) (c .add-tail .last .1 .1 .1 .1 .0) (c .add-tail .result))
 grown c =
     let turn = c .before .before .before in
     let costed = turn .before .before .before in
-    subst (λ (e : Entry). Grown (pushed (costed .before .before .side-of .result) (costed .before .side-of2 .result) (costed .cost .result) (tupleOf e) (entriesFrom (turn .before .loop .row) 0 (turn .before .loop .held)))
-    (turn .before .loop .row) (c .add-tail .last .1 .1 .1 .1 .0) (c .add-tail .result)) (c .before .before .tail-of .ensures) (c .add-tail .ensures)
+    subst (λ (e : Entry). Grown (pushed (costed .before .before .side-of .result) (costed .before .side-of2 .result)
+    (costed .cost .result) (tupleOf e) (entriesFrom (turn .before .loop .row) 0 (turn .before .loop .held)))
+    (turn .before .loop .row) (c .add-tail .last .1 .1 .1 .1 .0) (c .add-tail .result))
+    (c .before .before .tail-of .ensures) (c .add-tail .ensures)
 
 ways-holds : tie.Need-ways-holds Inv-loop μ-loop Inv-ways μ-ways
-ways-holds c = let start = c .before .before .before .before in (filling-start _ _ _ (start .pre .1 .1) (start .pre .1 .0), omega arith)
+ways-holds c = let start = c .before .before .before .before in
+    (filling-start _ _ _ (start .pre .1 .1) (start .pre .1 .0), omega arith)
 
 side-of-requires : tie.Need-side-of-requires Inv-loop μ-loop Inv-ways μ-ways
-side-of-requires c κs = let ready = c .before .before .before .before .before .before .pre .0 in omega (arith, ready .size, ready .below)
+side-of-requires c κs = let ready = c .before .before .before .before .before .before .pre .0 in omega
+    (arith, ready .size, ready .below)
 
 side-of-requires-2 : tie.Need-side-of-requires-2 Inv-loop μ-loop Inv-ways μ-ways
-side-of-requires-2 c κs = let ready = c .before .before .before .before .before .before .before .pre .0 in omega (arith, ready .size, ready .below)
+side-of-requires-2 c κs = let ready = c .before .before .before .before .before .before .before .pre .0 in omega
+    (arith, ready .size, ready .below)
 
 cost-requires : tie.Need-cost-requires Inv-loop μ-loop Inv-ways μ-ways
-cost-requires c κs = let ready = c .before .before .before .before .before .before .before .before .pre .0 in omega (arith, ready .size, ready .below)
+cost-requires c κs = let ready = c .before .before .before .before .before .before .before .before .pre .0 in omega
+    (arith, ready .size, ready .below)
 
 many-of-requires : tie.Need-many-of-requires Inv-loop μ-loop Inv-ways μ-ways
 many-of-requires c κs = tt
@@ -88,7 +102,8 @@ loop-holds c =
     let costed = c .before in
     let at-ways = costed .before .before .before .before in
     let a = at-ways .before .before .before .before .before .args in (
-      at-first (costed .before .before .side-of .result) (costed .before .side-of2 .result) (costed .cost .result) (sourceOf (a .first .now) (a .second .now) (at-ways .ways .way)) (c .many-of .result)
+      at-first (costed .before .before .side-of .result) (costed .before .side-of2 .result) (costed .cost .result)
+          (sourceOf (a .first .now) (a .second .now) (at-ways .ways .way)) (c .many-of .result)
           (at-ways .ways .row) (at-ways .ways .held) (at-ways .ways .inv .0 .few) (at-ways .ways .inv .0 .size),
       omega arith,
     )
@@ -116,8 +131,10 @@ loop-again c =
     let costed = many .before in
     let at-ways = costed .before .before .before .before in
     let a = at-ways .before .before .before .before .before .args in (
-      at-next (costed .before .before .side-of .result) (costed .before .side-of2 .result) (costed .cost .result) (sourceOf (a .first .now) (a .second .now) (at-ways .ways .way)) (many .many-of .result)
-          _ _ (at-loop .loop .row) (at-loop .loop .held) (at-loop .loop .i) (at-loop .loop .inv .0) (turn .loop-test .taken) _ (added .add-tail .result) (grown added) (new-size added) (c .if1 .left),
+      at-next (costed .before .before .side-of .result) (costed .before .side-of2 .result) (costed .cost .result)
+          (sourceOf (a .first .now) (a .second .now) (at-ways .ways .way)) (many .many-of .result)
+          _ _ (at-loop .loop .row) (at-loop .loop .held) (at-loop .loop .i) (at-loop .loop .inv .0)
+          (turn .loop-test .taken) _ (added .add-tail .result) (grown added) (new-size added) (c .if1 .left),
       omega arith,
     )
 
@@ -135,11 +152,16 @@ ways-again c =
     let at-ways = costed .before .before .before .before in
     let a = at-ways .before .before .before .before .before .args in
     let f = at-loop .loop .inv .0 in (
-      way-next (a .plan .now) (a .b) (tailsBy (a .tails) (a .first .now) (a .second .now)) (at-ways .ways .way) (costed .cost .result) (costed .before .before .side-of .result) (costed .before .side-of2 .result)
-          (entriesFrom (sourceOf (a .first .now) (a .second .now) (at-ways .ways .way)) 0 (many .many-of .result)) (costed .before .before .side-of .ensures) (costed .before .side-of2 .ensures) (costed .cost .ensures)
-          (ap (entriesFrom (sourceOf (a .first .now) (a .second .now) (at-ways .ways .way)) 0) (many .many-of .ensures)) (at-ways .ways .inv .1 .0, costed .before .before .before .ways-test .taken)
-          _ _ (at-ways .ways .row) (at-ways .ways .held) (at-ways .ways .inv .0) (at-loop .loop .row) (at-loop .loop .held)
-          (at-last (costed .before .before .side-of .result) (costed .before .side-of2 .result) (costed .cost .result) (sourceOf (a .first .now) (a .second .now) (at-ways .ways .way)) (many .many-of .result)
+      way-next (a .plan .now) (a .b) (tailsBy (a .tails) (a .first .now) (a .second .now)) (at-ways .ways .way)
+          (costed .cost .result) (costed .before .before .side-of .result) (costed .before .side-of2 .result)
+          (entriesFrom (sourceOf (a .first .now) (a .second .now) (at-ways .ways .way)) 0 (many .many-of .result))
+          (costed .before .before .side-of .ensures) (costed .before .side-of2 .ensures) (costed .cost .ensures)
+          (ap (entriesFrom (sourceOf (a .first .now) (a .second .now) (at-ways .ways .way)) 0)
+          (many .many-of .ensures)) (at-ways .ways .inv .1 .0, costed .before .before .before .ways-test .taken)
+          _ _ (at-ways .ways .row) (at-ways .ways .held) (at-ways .ways .inv .0) (at-loop .loop .row)
+          (at-loop .loop .held)
+          (at-last (costed .before .before .side-of .result) (costed .before .side-of2 .result) (costed .cost .result)
+          (sourceOf (a .first .now) (a .second .now) (at-ways .ways .way)) (many .many-of .result)
           _ _ (at-loop .loop .row) (at-loop .loop .held) (at-loop .loop .i) (c .loop-test .left) f) (f .size) (f .few),
       omega arith,
     )
@@ -151,10 +173,13 @@ returns : tie.Need-returns Inv-loop μ-loop Inv-ways μ-ways
 returns c =
     let a = c .before .before .before .before .before .before .args in
     let inv = c .before .ways .inv in
-    filling-end _ _ _ _ (filling-same _ (λ r. r) _ _ _ _ (inv .0) (ways-end (a .plan .now) (a .b) (tailsBy (a .tails) (a .first .now) (a .second .now)) (c .before .ways .way) (c .ways-test .left) (inv .1 .1)))
+    filling-end _ _ _ _ (filling-same _ (λ r. r) _ _ _ _ (inv .0)
+    (ways-end (a .plan .now) (a .b) (tailsBy (a .tails) (a .first .now) (a .second .now)) (c .before .ways .way)
+    (c .ways-test .left) (inv .1 .1)))
 
 same-length-2 : tie.Need-same-length-2 Inv-loop μ-loop Inv-ways μ-ways
-same-length-2 c = let added = c .before .before .before in new-size added ∙ sym (start (added .before .before .before) .pre .1 .0)
+same-length-2 c = let added = c .before .before .before in new-size added ∙ sym
+    (start (added .before .before .before) .pre .1 .0)
 
 returns-2 : tie.Need-returns-2 Inv-loop μ-loop Inv-ways μ-ways
 returns-2 c =
@@ -165,13 +190,19 @@ returns-2 c =
     let costed = many .before in
     let at-ways = costed .before .before .before .before in
     let a = at-ways .before .before .before .before .before .args in
-    grown-past _ _ _ (added .add-tail .result) (start turn .pre .1 .0) (new-size added) (added .add-tail .ensures .most) (c .if1 .taken)
-    (way-over (a .plan .now) (a .b) (tailsBy (a .tails) (a .first .now) (a .second .now)) (at-ways .ways .way) (costed .cost .result) (costed .before .before .side-of .result) (costed .before .side-of2 .result)
-    (entriesFrom (sourceOf (a .first .now) (a .second .now) (at-ways .ways .way)) 0 (many .many-of .result)) (costed .before .before .side-of .ensures) (costed .before .side-of2 .ensures) (costed .cost .ensures)
-    (ap (entriesFrom (sourceOf (a .first .now) (a .second .now) (at-ways .ways .way)) 0) (many .many-of .ensures)) (at-ways .ways .inv .1 .0, costed .before .before .before .ways-test .taken)
+    grown-past _ _ _ (added .add-tail .result) (start turn .pre .1 .0) (new-size added)
+    (added .add-tail .ensures .most) (c .if1 .taken)
+    (way-over (a .plan .now) (a .b) (tailsBy (a .tails) (a .first .now) (a .second .now)) (at-ways .ways .way)
+    (costed .cost .result) (costed .before .before .side-of .result) (costed .before .side-of2 .result)
+    (entriesFrom (sourceOf (a .first .now) (a .second .now) (at-ways .ways .way)) 0 (many .many-of .result))
+    (costed .before .before .side-of .ensures) (costed .before .side-of2 .ensures) (costed .cost .ensures)
+    (ap (entriesFrom (sourceOf (a .first .now) (a .second .now) (at-ways .ways .way)) 0) (many .many-of .ensures))
+    (at-ways .ways .inv .1 .0, costed .before .before .before .ways-test .taken)
     _ _ (at-ways .ways .row) (at-ways .ways .held) (at-ways .ways .inv .0)
-    (at-over (costed .before .before .side-of .result) (costed .before .side-of2 .result) (costed .cost .result) (sourceOf (a .first .now) (a .second .now) (at-ways .ways .way)) (many .many-of .result)
-    _ _ (at-loop .loop .row) (at-loop .loop .held) (at-loop .loop .i) (at-loop .loop .inv .0) (turn .loop-test .taken) _ (added .add-tail .result) (grown added) (c .if1 .taken)))
+    (at-over (costed .before .before .side-of .result) (costed .before .side-of2 .result) (costed .cost .result)
+    (sourceOf (a .first .now) (a .second .now) (at-ways .ways .way)) (many .many-of .result)
+    _ _ (at-loop .loop .row) (at-loop .loop .held) (at-loop .loop .i) (at-loop .loop .inv .0)
+    (turn .loop-test .taken) _ (added .add-tail .result) (grown added) (c .if1 .taken)))
 
 pub build-spec : {M : Type 1} → statement M
 build-spec =

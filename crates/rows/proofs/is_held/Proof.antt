@@ -13,13 +13,22 @@ returns : tie.Need-returns
 returns c =
     let read = c .before .before .before in
     let a = read .before .before .before .args in
-    rw (lt-ltb (a .p) (a .held) (read .before .if1 .taken), eq-eqb _ _ (sym (ap (λ (e : Entry). e .jumps) (read .entry-at .ensures)) ∙ c .before .if2 .taken), read .entry-at .ensures)
+    rw (
+      lt-ltb (a .p) (a .held) (read .before .if1 .taken),
+      eq-eqb _ _
+          (sym (ap (λ (e : Entry). e .jumps) (read .entry-at .ensures)) ∙ c .before .if2 .taken),
+      read .entry-at .ensures,
+    )
 
 returns-2 : tie.Need-returns-2
 returns-2 c =
     let read = c .before .before in
     let a = read .before .before .before .args in
-    rw (lt-ltb (a .p) (a .held) (read .before .if1 .taken), ne-eqb _ _ (λ e. c .if2 .left (ap (λ (e : Entry). e .jumps) (read .entry-at .ensures) ∙ e)))
+    rw (
+      lt-ltb (a .p) (a .held) (read .before .if1 .taken),
+      ne-eqb _ _
+          (λ e. c .if2 .left (ap (λ (e : Entry). e .jumps) (read .entry-at .ensures) ∙ e)),
+    )
     (ne-eqb _ _ (c .if2 .left))
 
 returns-3 : tie.Need-returns-3

@@ -25,7 +25,8 @@ returns c =
     let judged = put .before .before .before in
     let read = judged .before in
     let a = read .before .before .before .args in
-    picked (a .row .now) (judged .better .ensures ∙ ap (λ (e : Entry). betterOf (tupleOf (a .e) .1) (wordsIn (e .way))) (read .entry-at .ensures)) (put .before .before .if1 .taken) (put .put-entry .ensures)
+    picked (a .row .now) (judged .better .ensures ∙ ap (λ (e : Entry). betterOf (tupleOf (a .e) .1) (wordsIn (e .way)))
+    (read .entry-at .ensures)) (put .before .before .if1 .taken) (put .put-entry .ensures)
 
 same-length-2 : tie.Need-same-length-2
 same-length-2 c = search needs
@@ -35,7 +36,9 @@ returns-2 c =
     let judged = c .before in
     let read = judged .before in
     let a = read .before .before .before .args in
-    passed-by (entryPut (a .row .now) (a .p) (tupleOf (a .e))) (judged .better .ensures ∙ ap (λ (e : Entry). betterOf (tupleOf (a .e) .1) (wordsIn (e .way))) (read .entry-at .ensures)) (c .if1 .left) refl
+    passed-by (entryPut (a .row .now) (a .p) (tupleOf (a .e)))
+    (judged .better .ensures ∙ ap (λ (e : Entry). betterOf (tupleOf (a .e) .1) (wordsIn (e .way)))
+    (read .entry-at .ensures)) (c .if1 .left) refl
 
 pub keep-better-spec : {M : Type 1} → statement M
 keep-better-spec =

@@ -1,4 +1,5 @@
--- `rows::open_gap` meets its contract. The loop's invariant: the entries from i on are moved, those up to i are as they were. The measure is i.
+-- `rows::open_gap` meets its contract. The loop's invariant: the entries from i on are moved, those up to i are as they
+-- were. The measure is i.
 use mathlib.Core.Path.{_≡_, sym, ap, subst, _∙_}
 use mathlib.Core.List.{List}
 use Prim.Native.Nat.{ℕ, _-_, _≤_}
@@ -42,8 +43,10 @@ loop-again c =
     let a = at-loop .before .before .args in
     let l = at-loop .loop in (
       (
-        subst (λ (m : List ℕ). Moving (a .row .now) m (l .i - 1) (a .to)) (sym (put .put-entry .ensures ∙ ap (λ e. entryPut (l .row) (l .i) (tupleOf e)) (read .entry-at .ensures)))
-            (moving-more (a .row .now) (l .row) (l .i) (a .to) (omega (arith, turn .loop-test .taken)) (l .inv .1 .0) (omega (arith, l .inv .1 .1, at-loop .before .before .pre .1)) (l .inv .0 .0)),
+        subst (λ (m : List ℕ). Moving (a .row .now) m (l .i - 1) (a .to))
+            (sym (put .put-entry .ensures ∙ ap (λ e. entryPut (l .row) (l .i) (tupleOf e)) (read .entry-at .ensures)))
+            (moving-more (a .row .now) (l .row) (l .i) (a .to) (omega (arith, turn .loop-test .taken)) (l .inv .1 .0)
+            (omega (arith, l .inv .1 .1, at-loop .before .before .pre .1)) (l .inv .0 .0)),
         omega arith,
       ),
       (omega arith, put .put-entry .kept .0 ∙ l .inv .1 .1),
@@ -55,7 +58,8 @@ same-length c = c .before .loop .inv .1 .1
 returns : tie.Need-returns Inv-loop μ-loop
 returns c =
     let a = c .before .before .before .args in
-    moving-end (a .row .now) (c .before .loop .row) (a .from) (c .before .loop .i) (a .to) (omega arith) (c .before .loop .inv .0 .0)
+    moving-end (a .row .now) (c .before .loop .row) (a .from) (c .before .loop .i) (a .to) (omega arith)
+    (c .before .loop .inv .0 .0)
 
 pub open-gap-spec : {M : Type 1} → statement M
 open-gap-spec =

@@ -1,7 +1,8 @@
--- `rows::place_of` meets its contract. The loop's invariant: every entry passed has a lower key. The measure is what is left of the entries.
+-- `rows::place_of` meets its contract. The loop's invariant: every entry passed has a lower key. The measure is what is
+-- left of the entries.
 use mathlib.Core.Path.{_≡_, sym, _∙_, ap}
 use mathlib.Core.Bool.{true}
-use Prim.Native.Nat.{ℕ, _*_, _-_, _≤_, _<_}
+use Prim.Native.Nat.{ℕ, _-_, _≤_, _<_}
 use native.Mathlib.Omega.{arith}
 use borrow.Author.Count.{below-more}
 use borrow.Author.Tests.{not-true, not-false}
@@ -19,10 +20,15 @@ abbrev μ-loop : tie.MeasureT-loop
 
 -- what the test of an entry's key says
 judged : (c : tie.After-before2 Inv-loop μ-loop) → c .before2 .result
-    ≡ keyBefore (entryAt (c .before .before .before .before .before .args .row .now) (c .before .before .before .loop .p) .0) (c .before .before .before .before .before .args .jumps, c .before .before .before .before .before .args .falls)
+    ≡ keyBefore (entryAt (c .before .before .before .before .before .args .row .now)
+    (c .before .before .before .loop .p) .0) (
+      c .before .before .before .before .before .args .jumps,
+      c .before .before .before .before .before .args .falls,
+    )
 judged c =
     let a = c .before .before .before .before .before .args in
-    c .before2 .ensures ∙ ap (λ (e : Entry). keyBefore (e .jumps, e .falls) (a .jumps, a .falls)) (c .before .entry-at .ensures)
+    c .before2 .ensures ∙ ap (λ (e : Entry). keyBefore (e .jumps, e .falls) (a .jumps, a .falls))
+    (c .before .entry-at .ensures)
 
 loop-holds : tie.Need-loop-holds Inv-loop μ-loop
 loop-holds c = (omega arith, λ i h. absurd (never i h))
@@ -37,7 +43,12 @@ before-requires : tie.Need-before-requires Inv-loop μ-loop
 before-requires c κs = tt
 
 returns : tie.Need-returns Inv-loop μ-loop
-returns c = record { inside = omega arith; lower = c .before .before .before .before .loop .inv .1; stop = λ h. sym (judged (c .before)) ∙ not-true _ (c .if1 .taken) }
+returns c = record {
+  inside = omega arith;
+  lower = c .before .before .before .before .loop .inv .1;
+  stop = λ h. sym
+      (judged (c .before)) ∙ not-true _ (c .if1 .taken);
+}
 
 add-p : tie.Need-add-p Inv-loop μ-loop
 add-p c = omega arith
@@ -46,7 +57,11 @@ loop-less : tie.Need-loop-less Inv-loop μ-loop
 loop-less c = omega arith
 
 loop-again : tie.Need-loop-again Inv-loop μ-loop
-loop-again c = (omega arith, below-more _ _ (c .before .before .before .before .loop .inv .1) (sym (judged (c .before)) ∙ not-false _ (c .if1 .left)))
+loop-again c = (
+  omega arith,
+  below-more _ _ (c .before .before .before .before .loop .inv .1)
+      (sym (judged (c .before)) ∙ not-false _ (c .if1 .left)),
+)
 
 returns-2 : tie.Need-returns-2 Inv-loop μ-loop
 returns-2 c = record { inside = c .before .loop .inv .0; lower = c .before .loop .inv .1; stop = λ h. absurd (never h) }

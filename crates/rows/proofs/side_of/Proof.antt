@@ -39,7 +39,15 @@ returns c =
     let listed = touched .before in
     let test = listed .before in
     let denied = test .before in
-    rw (c .when2 .ensures, when .when .ensures, touched .touched .ensures, listed .listed .ensures, test .test .ensures, denied .denied .ensures, denied .before .against .ensures)
+    rw (
+      c .when2 .ensures,
+      when .when .ensures,
+      touched .touched .ensures,
+      listed .listed .ensures,
+      test .test .ensures,
+      denied .denied .ensures,
+      denied .before .against .ensures,
+    )
 
 pub side-of-spec : {M : Type 1} → statement M
 side-of-spec =

@@ -26,7 +26,8 @@ returns c =
     let a = start .args in
     let e = tupleOf (a .e) in
     subst (λ (m : List ℕ). Squeezed (a .row .now) m (a .p) (a .held) e) (sym (put .put-entry .ensures))
-    (squeezed (a .row .now) (gap .open-gap .last .0) (a .p) (a .held) e (start .pre .0) (omega (arith, start .pre .1, gap .open-gap .kept .0)) (gap .open-gap .ensures))
+    (squeezed (a .row .now) (gap .open-gap .last .0) (a .p) (a .held) e (start .pre .0)
+    (omega (arith, start .pre .1, gap .open-gap .kept .0)) (gap .open-gap .ensures))
 
 pub squeeze-in-spec : {M : Type 1} → statement M
 squeeze-in-spec = tie.close (tie.spec open-gap-requires put-entry-requires same-length returns)

@@ -1,17 +1,12 @@
 -- `sweep::answer` meets its contract.
 use mathlib.Core.Path.{_≡_, sym, ap, subst, _∙_}
-use mathlib.Core.List.{List, _++_}
 use Prim.Native.Nat.{ℕ, _<_, _≤_}
 use native.Mathlib.Omega.{arith}
-use lib.ListN.{drop}
 use Rattle.theory.specs.Plan.{costLimit}
 use Rattle.plan.specs.Accepted.{product}
-use Rattle.plan.specs.RouteWords.{bytesOf}
 use Rattle.rows.specs.declared.Entry.{Entry}
 use Rattle.rows.specs.Structs.{structAt}
 use Rattle.sweep.specs.Ends.{answerOf, answer-none, answer-some}
-use Rattle.sweep.specs.declared.SweepAnswer.{SweepAnswer}
-use Rattle.sweep.specs.declared.SweepAnswer.the-variants.{Routed}
 use borrow.Author.Needs.{needs}
 use Rattle.sweep.proofs.answer.Statement.{statement}
 use Rattle.sweep.proofs.answer.Tie as tie
@@ -25,7 +20,8 @@ refuse-requires c κs = search needs
 returns : tie.Need-returns
 returns c =
     let a = c .before .before .before .before .args in
-    answer-none (a .count) (a .iterations) (a .kept) (a .found) (structAt (a .row .now) 0 .way) (a .route .now) (c .before .if1 .taken) (c .refuse .ensures)
+    answer-none (a .count) (a .iterations) (a .kept) (a .found) (structAt (a .row .now) 0 .way) (a .route .now)
+    (c .before .if1 .taken) (c .refuse .ensures)
 
 entry-at-requires : tie.Need-entry-at-requires
 entry-at-requires c κs = search needs
@@ -38,7 +34,8 @@ mul-t14 c =
     let read = c .before .before .before .before .before in
     let start = read .before .before .before .before in
     product (start .args .iterations) (read .entry-at .result .way .weight) (start .pre .0 .1 .1)
-    (subst (λ (e : Entry). e .way .weight ≤ costLimit) (sym (read .entry-at .ensures)) (start .pre .1 (positive (start .args .found) (read .before .if1 .left))))
+    (subst (λ (e : Entry). e .way .weight ≤ costLimit) (sym (read .entry-at .ensures))
+    (start .pre .1 (positive (start .args .found) (read .before .if1 .left))))
 
 same-length : tie.Need-same-length
 same-length c = search needs
@@ -48,8 +45,10 @@ returns-2 c =
     let written = c .before .before in
     let read = written .before .before .before in
     let a = read .before .before .before .before .args in
-    answer-some (a .count) (a .iterations) (a .kept) (a .found) (read .entry-at .result .way) (a .route .now) (read .before .if1 .left) (written .write-route .ensures .1)
-    ∙ ap (λ (e : Entry). answerOf (a .count) (a .iterations) (a .kept) (a .found) (e .way) (a .route .now)) (read .entry-at .ensures)
+    answer-some (a .count) (a .iterations) (a .kept) (a .found) (read .entry-at .result .way) (a .route .now)
+    (read .before .if1 .left) (written .write-route .ensures .1)
+    ∙ ap (λ (e : Entry). answerOf (a .count) (a .iterations) (a .kept) (a .found) (e .way) (a .route .now))
+    (read .entry-at .ensures)
 
 pub answer-spec : {M : Type 1} → statement M
 answer-spec =

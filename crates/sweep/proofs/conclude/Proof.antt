@@ -25,7 +25,8 @@ returns-2 : tie.Need-returns-2
 returns-2 c =
     let some = c .before .before in
     let a = some .before .before .before .args in
-    few-bytes (a .ready) (a .entries) (a .swept) (a .t4) (a .route .now) (some .if1 .left) (c .before .if2 .taken) (c .refuse2 .ensures)
+    few-bytes (a .ready) (a .entries) (a .swept) (a .t4) (a .route .now) (some .if1 .left) (c .before .if2 .taken)
+    (c .refuse2 .ensures)
 
 mul-if3 : tie.Need-mul-if3
 mul-if3 c = search needs
@@ -40,7 +41,8 @@ returns-3 : tie.Need-returns-3
 returns-3 c =
     let bytes = c .before .before in
     let a = bytes .before .before .before .before .args in
-    few-entries (a .ready) (a .entries) (a .swept) (a .t4) (a .route .now) (bytes .before .if1 .left) (bytes .if2 .left) (c .before .if3 .taken) (c .refuse3 .ensures)
+    few-entries (a .ready) (a .entries) (a .swept) (a .t4) (a .route .now) (bytes .before .if1 .left)
+    (bytes .if2 .left) (c .before .if3 .taken) (c .refuse3 .ensures)
 
 enum-known-swept : tie.Need-enum-known-swept
 enum-known-swept c = search needs
@@ -58,15 +60,19 @@ answer-requires : tie.Need-answer-requires
 answer-requires c κs =
     let told = c .before .before .before in
     let memory = told .before .before in
-    let start = memory .before .before .before .before .before in
-    ((memory .before .if2 .left, (search needs, start .pre .1 .0 (zero (memory .before .before .if1 .left)))), λ h. start .pre .1 .1 _ _ (told .swept2 .given .1) h)
+    let start = memory .before .before .before .before .before in (
+      (memory .before .if2 .left, (search needs, start .pre .1 .0 (zero (memory .before .before .if1 .left)))),
+      λ h.
+          start .pre .1 .1 _ _ (told .swept2 .given .1) h,
+    )
 
 returns-4 : tie.Need-returns-4
 returns-4 c =
     let told = c .before .before in
     let memory = told .before .before in
     let a = memory .before .before .before .before .before .args in
-    crowd (a .ready) (a .entries) (a .swept) (a .t4) (a .route .now) (memory .before .before .if1 .left) (memory .before .if2 .left) (memory .if3 .left) (told .swept .given .1) (c .refuse4 .ensures)
+    crowd (a .ready) (a .entries) (a .swept) (a .t4) (a .route .now) (memory .before .before .if1 .left)
+    (memory .before .if2 .left) (memory .if3 .left) (told .swept .given .1) (c .refuse4 .ensures)
 
 same-length : tie.Need-same-length
 same-length c = search needs
@@ -77,7 +83,8 @@ returns-5 c =
     let told = made .before .before .before .before in
     let memory = told .before .before in
     let a = memory .before .before .before .before .before .args in
-    all-rows (a .ready) (a .entries) (a .swept) (a .t4) (a .route .now) (memory .before .before .if1 .left) (memory .before .if2 .left) (memory .if3 .left) (told .swept2 .given .1) (made .answer .ensures)
+    all-rows (a .ready) (a .entries) (a .swept) (a .t4) (a .route .now) (memory .before .before .if1 .left)
+    (memory .before .if2 .left) (memory .if3 .left) (told .swept2 .given .1) (made .answer .ensures)
 
 pub conclude-spec : {M : Type 1} → statement M
 conclude-spec =

@@ -14,7 +14,8 @@ returns : tie.Need-returns
 returns c = sym (ap (λ (u : Bool). cond u (64 * c .before .args .t) 0) (lt-ltb (c .before .args .t) 64 (c .if1 .taken)))
 
 returns-2 : tie.Need-returns-2
-returns-2 c = sym (ap (λ (u : Bool). cond u (64 * c .before .args .t) 0) (le-ltb (c .before .args .t) 64 (c .if1 .left)))
+returns-2 c = sym (ap (λ (u : Bool). cond u (64 * c .before .args .t) 0)
+    (le-ltb (c .before .args .t) 64 (c .if1 .left)))
 
 pub first-of-spec : {M : Type 1} → statement M
 first-of-spec = tie.close (tie.spec mul-result returns returns-2)

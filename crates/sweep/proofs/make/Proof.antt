@@ -30,8 +30,12 @@ returns c =
     let built = c .before .before in
     let begun = built .before .before .before in
     let a = begun .before .before .before .before .before .args in
-    built-as (a .plan .now) (a .s .b) (tailsBy (tailsIn (a .s)) (a .first .now) (a .second .now)) (begunWith (a .plan .now) (a .count) (a .s .b)) (begun .begin .last .1 .1 .1 .0) (begun .begin .result) (begun .begin .ensures)
-    (built .build .last .1 .1 .1 .1 .1 .0) (built .build .result) (built .build .ensures) (built .build .kept .1 .1 .1 .1 .1 .0 ∙ begun .begin .ensures .size) (c .whole-of .result) (c .whole-of .ensures)
+    built-as (a .plan .now) (a .s .b) (tailsBy (tailsIn (a .s)) (a .first .now) (a .second .now))
+    (begunWith (a .plan .now) (a .count) (a .s .b)) (begun .begin .last .1 .1 .1 .0) (begun .begin .result)
+    (begun .begin .ensures)
+    (built .build .last .1 .1 .1 .1 .1 .0) (built .build .result) (built .build .ensures)
+    (built .build .kept .1 .1 .1 .1 .1 .0 ∙ begun .begin .ensures .size) (c .whole-of .result)
+    (c .whole-of .ensures)
 
 pub make-spec : {M : Type 1} → statement M
 make-spec =

@@ -9,8 +9,11 @@ no-lengths-requires c κs = search needs
 
 returns : tie.Need-returns
 returns c =
-    let n = c .before .before .args .count in
-    (λ t. record { going = ltb 0 n; b = n; kept = 0; found = 0; lengths = c .no-lengths .ensures t }, λ k. c .before .shared-slice-known .given k .fits)
+    let n = c .before .before .args .count in (
+      λ t. record { going = ltb 0 n; b = n; kept = 0; found = 0; lengths = c .no-lengths .ensures t },
+      λ k.
+          c .before .shared-slice-known .given k .fits,
+    )
 
 pub start-spec : {M : Type 1} → statement M
 start-spec = tie.close (tie.spec no-lengths-requires returns)

@@ -17,6 +17,7 @@ use Rattle.laws.specs.Terms.{Mem, anyOf, next, bit}
 use Rattle.laws.specs.Tests.{split, clash, and-in, or-out, or-in-left, or-in-right, or-none, is-false, eqb-swap}
 use Rattle.laws.specs.Orders.{ltb-order, next-same}
 use Rattle.laws.specs.Sets.{ext, setOf-lt, setOf-zero, bit-setOf, bit-with, lowest-bit, no-lowest}
+use Rattle.lower_laws.specs.Endings.{by-exits}
 use Rattle.form.specs.declared.Body.{Body}
 use Rattle.form.specs.Conflict.{Edge, block, exitsBy, exits, Onward, same}
 use Rattle.theory.specs.Route.{Path, lastBlock, wayOf}
@@ -41,16 +42,25 @@ mark way x s = cond (eqb (x .1) way) (bitOr s (2 ^ x .0)) s
 
 one-target : (ending jump fall w u v : ℕ) → Mem (w, u) (exitsBy ending jump fall)
     → Mem (w, v) (exitsBy ending jump fall) → u ≡ v
-one-target zero j f w u v m n = absurd m
-one-target (suc zero) j f w u v (inl p) (inl q) = ap (λ (o : ℕ × ℕ). o .1) (p ∙ sym q)
-one-target (suc (suc zero)) j f w u v (inl p) (inl q) = ap (λ (o : ℕ × ℕ). o .1) (p ∙ sym q)
-one-target (suc (suc zero)) j f w u v (inl p) (inr (inl q)) =
-    let e : _≡_ {A = ℕ} 1 2 = sym (ap (λ (o : ℕ × ℕ). o .0) p) ∙ ap (λ (o : ℕ × ℕ). o .0) q in absurd (omega arith)
-one-target (suc (suc zero)) j f w u v (inr (inl p)) (inl q) =
-    let e : _≡_ {A = ℕ} 2 1 = sym (ap (λ (o : ℕ × ℕ). o .0) p) ∙ ap (λ (o : ℕ × ℕ). o .0) q in absurd (omega arith)
-one-target (suc (suc zero)) j f w u v (inr (inl p)) (inr (inl q)) = ap (λ (o : ℕ × ℕ). o .1) (p ∙ sym q)
-one-target (suc (suc (suc zero))) j f w u v m n = one-target (suc (suc zero)) j f w u v m n
-one-target (suc (suc (suc (suc k)))) j f w u v m n = absurd m
+one-target ending jump fall w u v =
+    by-exits jump fall (λ l. Mem {A = ℕ × ℕ} (w, u) l → Mem {A = ℕ × ℕ} (w, v) l → u ≡ v) (λ m n. absurd m) one both
+    ending
+  where
+    one : Mem {A = ℕ × ℕ} (w, u) ((1, jump) ∷ []) → Mem {A = ℕ × ℕ} (w, v) ((1, jump) ∷ []) → u ≡ v
+    one (inl p) (inl q) = ap (λ (o : ℕ × ℕ). o .1) (p ∙ sym q)
+
+    unlike : {a b : ℕ} → _≡_ {A = ℕ × ℕ} (w, u) (1, a) → _≡_ {A = ℕ × ℕ} (w, v) (2, b) → ⊥
+    unlike p q = let e : _≡_ {A = ℕ} 1 2 = sym (ap (λ (o : ℕ × ℕ). o .0) p) ∙ ap (λ (o : ℕ × ℕ). o .0) q in omega arith
+
+    alike : {a b : ℕ} → _≡_ {A = ℕ × ℕ} (w, u) (2, a) → _≡_ {A = ℕ × ℕ} (w, v) (1, b) → ⊥
+    alike p q = let e : _≡_ {A = ℕ} 2 1 = sym (ap (λ (o : ℕ × ℕ). o .0) p) ∙ ap (λ (o : ℕ × ℕ). o .0) q in omega arith
+
+    both : Mem {A = ℕ × ℕ} (w, u) ((1, jump) ∷ (2, fall) ∷ []) → Mem {A = ℕ × ℕ} (w, v) ((1, jump) ∷ (2, fall) ∷ [])
+        → u ≡ v
+    both (inl p) (inl q) = ap (λ (o : ℕ × ℕ). o .1) (p ∙ sym q)
+    both (inl p) (inr (inl q)) = absurd (unlike p q)
+    both (inr (inl p)) (inl q) = absurd (alike p q)
+    both (inr (inl p)) (inr (inl q)) = ap (λ (o : ℕ × ℕ). o .1) (p ∙ sym q)
 
 module _ (body : Body) where
   pub exit-one : (b w u v : ℕ) → Mem (w, u) (exits body b) → Mem (w, v) (exits body b) → u ≡ v

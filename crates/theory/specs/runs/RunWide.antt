@@ -16,6 +16,7 @@ use mir.Val.{SFits}
 use Rattle.laws.specs.Terms.{Mem, anyOf}
 use Rattle.laws.specs.Tests.{split, or-no, eqb-same}
 use Rattle.laws.specs.Sets.{below-or-not}
+use Rattle.lower_laws.specs.Endings.{by-ending}
 use Rattle.form.specs.declared.Body.{Body}
 use Rattle.form.specs.declared.Effect.{Effect}
 use Rattle.form.specs.Conflict.{block, effectsOf, exitsBy, exits, later, lastOn, Sound}
@@ -235,18 +236,14 @@ module _ (body : Body) (g : Sound body) where
   pub can-leave : (b : ℕ) → suc b < body .count → (s : State) → (o : ℕ × ℕ) × Leaves body b s o
   can-leave b h s =
       let (o, m) = g .going b h in
-      by (block body b .ending) refl o (subst (Mem o) (exits-of body b s o _ refl) m)
+      by-ending (block body b .jump) (block body b .fall)
+      (λ ending l. block body b .ending ≡ ending → Mem o l → (x : ℕ × ℕ) × Leaves body b s x) (λ e n. absurd n)
+      (λ e n. (jump, go-left body b s jump e .1 refl)) (λ e n. (jump, open-left body b s jump e .1 (inl refl)))
+      (λ e n. (_, test-left body b s _ e .1 refl)) (λ above h e n. absurd n) (block body b .ending) refl
+      (subst (Mem o) (exits-of body b s o _ refl) m)
     where
       jump : ℕ × ℕ
       jump = (1, block body b .jump)
-
-      by : (ending : ℕ) → block body b .ending ≡ ending → (x : ℕ × ℕ)
-          → Mem x (exitsBy ending (block body b .jump) (block body b .fall)) → (o : ℕ × ℕ) × Leaves body b s o
-      by zero e x m = absurd m
-      by (suc zero) e x m = (jump, go-left body b s jump e .1 refl)
-      by (suc (suc zero)) e x m = (jump, open-left body b s jump e .1 (inl refl))
-      by (suc (suc (suc zero))) e x m = (_, test-left body b s _ e .1 refl)
-      by (suc (suc (suc (suc above)))) e x m = absurd m
 
   -- one block more: the last one ends, another is left and goes on
   one-step : (b : ℕ) → b < body .count → (s : State)

@@ -19,7 +19,8 @@ use Rattle.theory.specs.WalkWords.{finish}
 use Rattle.theory.specs.Plan.{targetAt, costAt, IsWay}
 use Rattle.walk.specs.Terms.{Found, bannedAt, routeIn, soFar, tallied, isOpen, Standing, Walks, Took}
 use Rattle.walk.specs.Terms.Took.{stays}
-use Rattle.walk.specs.Laws.{by-jump, by-fall, jump-edge, fall-edge, walks, open-is, took-goes, took-none}
+use Rattle.theory.specs.PlanWays.{by-jump, by-fall}
+use Rattle.walk.specs.Laws.{jump-edge, fall-edge, walks, open-is, took-goes, took-none}
 use Rattle.walk.specs.Laws.{visit-is}
 use Rattle.walk.specs.Laws.{costs-few, onward}
 use Rattle.walk.proofs.walk_from.Reads as walk-from
