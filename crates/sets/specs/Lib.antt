@@ -1,4 +1,4 @@
--- What the sets are of a body (Local, Found: trusted), and what its rows tell (Worded, Rows).
+-- What the sets are of a body (Local, Found: trusted), and that a sound body's words can be joined (Worded).
 pub mod Local
 pub mod Found
 pub mod Worded

@@ -1,6 +1,7 @@
-// The sweep: over the plan of a body, from the last block down, row by row, into a lent table of entries, which is its memory: row b stands from entry 64 b on. `fetch`,
-// `store`, `sweep_block`, `sweep_rows`, `sweep` and `sweep_own` have a slice of structs and are proved by a walk of their code by hand; they have no branch, and what they
-// hand on goes by value. All else works on local rows of numbers, and is covered. What is owed is in specs/Answer.antt.
+// The sweep: over the plan of a body, from the last block down, row by row, into a lent table of entries, which is its
+// memory: row b stands from entry 64 b on. `fetch`, `store`, `sweep_block`, `sweep_rows`, `sweep` and `sweep_own` have a
+// slice of structs and are proved by a walk of their code by hand; they have no branch. All else works on local rows of
+// numbers, and is covered. What is owed is in specs/Answer.antt.
 ghost use mathlib.Core.Path.{_≡_};
 ghost use Prim.Native.Nat.{ℕ, suc, max, min, _+_, _*_, _-_, _^_, _<_, _≤_};
 ghost use lib.ListN.{length, getD};

@@ -1,4 +1,4 @@
--- A number's digits by io's definition, the fewest that hold it, are those of Report. Rests on Report.
+-- A number's digits by io's definition, the fewest that hold it, are those of Text. Rests on Text.
 use mathlib.Core.Bool.{Bool, true, false, cond}
 use mathlib.Core.List.{List, [], _∷_, _++_}
 use mathlib.Core.Path.{_≡_, refl}

@@ -1,5 +1,5 @@
--- The route's line, block by block: what is added so far, with the blocks to come, is all of it. Rests on Report and
--- Adding.
+-- The route's line, block by block: what is added so far, with the blocks to come, is all of it. Rests on Text and
+-- lent's Adding.
 use mathlib.Core.List.{List, [], _++_, append-assoc, append-nil}
 use mathlib.Core.Path.{_≡_, refl, ap, sym, _∙_}
 use Prim.Native.Nat.{ℕ, suc, _+_, _<_}

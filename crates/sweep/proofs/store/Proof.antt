@@ -1,8 +1,7 @@
 -- `sweep::store` meets its contract: a walk of its MIR, by hand, since a slice of structs has no rule of the borrow
--- checker's. The borrow of the table is opened once, before the
--- loop, and closed once, after it; the words, a local array, are lent to be read for the whole loop; each turn takes
--- one entry's place out of the row, stores what `entry_of` made, and
--- puts it back. Rests on specs/Rows, `entry_of`'s contract and proofs/Lent.
+-- checker's. The borrow of the table is opened once, before the loop, and closed once, after it; the words, a local
+-- array, are lent to be read for the whole loop; each turn takes one entry's place out of the row, stores what
+-- `entry_of` made, and puts it back. Rests on specs/Table, `entry_of`'s contract and proofs/Lent.
 use mathlib.Core.Path.{_≡_, refl, sym, _∙_, ap, subst}
 use Prim.Native.Nat.{ℕ, zero, suc, _+_, _*_, _<_, _≤_, _^_}
 use native.Mathlib.Omega.{arith}
