@@ -3,7 +3,6 @@ use mathlib.Core.Path.{_≡_, ap, sym, _∙_}
 use mir.Facts.{toZ-ofZ}
 use Rattle.laws.specs.Terms.{digit}
 use Rattle.pair.specs.Pair.{conflicting}
-use borrow.Author.Needs.{needs}
 use Rattle.desk.proofs.somniaret_pair.Statement.{statement}
 use Rattle.desk.proofs.somniaret_pair.Tie as tie
 

@@ -5,15 +5,6 @@ use borrow.Author.Needs.{needs}
 use Rattle.listing.proofs.conflicts.Statement.{statement}
 use Rattle.listing.proofs.conflicts.Tie as tie
 
-read-requires : tie.Need-read-requires
-read-requires c κs = search needs
-
-enum-known-verdict : tie.Need-enum-known-verdict
-enum-known-verdict c = search needs
-
-enum-told : tie.Need-enum-told
-enum-told c = search needs
-
 list-of-requires : tie.Need-list-of-requires
 list-of-requires c κs =
     let read = c .before .before .before .before in
@@ -25,9 +16,6 @@ returns c =
     let read = c .before .before .before in
     refused-as (read .before .before .before .args .form .now) _ (read .read .ensures .0) _ _ _
     (c .before .verdict .given .1)
-
-same-length : tie.Need-same-length
-same-length c = search needs
 
 returns-2 : tie.Need-returns-2
 returns-2 c =
@@ -42,10 +30,10 @@ pub conflicts-spec : {M : Type 1} → statement M
 conflicts-spec =
     tie.close
     (tie.spec
-    read-requires
-    enum-known-verdict
-    enum-told
+    (λ c κs. search needs)
+    (λ c. search needs)
+    (λ c. search needs)
     list-of-requires
     returns
-    same-length
+    (λ c. search needs)
     returns-2)

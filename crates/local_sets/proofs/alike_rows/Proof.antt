@@ -7,7 +7,6 @@ use native.Mathlib.Omega.{arith}
 use lib.ListN.{getD}
 use Rattle.words.specs.Filled.{Told, told-none, told-more, told-end}
 use Rattle.local_sets.specs.Parts.{AlikeAt}
-use borrow.Author.Needs.{needs}
 use Rattle.local_sets.proofs.alike_rows.Statement.{statement}
 use Rattle.local_sets.proofs.alike_rows.Tie as tie
 

@@ -11,7 +11,6 @@ use Rattle.lower_laws.specs.Effects.{take-next}
 use Rattle.words.specs.Filled.{in-room}
 use Rattle.local_sets.specs.Parts.{HitsFrom}
 use Rattle.local_sets.specs.Turns.{hits-none, touched-more, denied-more}
-use borrow.Author.Needs.{needs}
 use Rattle.local_sets.proofs.hits_of.Statement.{statement}
 use Rattle.local_sets.proofs.hits_of.Tie as tie
 

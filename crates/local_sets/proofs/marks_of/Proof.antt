@@ -14,7 +14,6 @@ use Rattle.words.specs.Filled.{in-room, fits-8, fits-byte, fits-next, next-with
 use Rattle.local_sets.specs.declared.Tests.{Tests}
 use Rattle.local_sets.specs.Parts.{OnVariable, MarksOf}
 use Rattle.local_sets.specs.Turns.{mark-at}
-use borrow.Author.Needs.{needs}
 use Rattle.local_sets.proofs.marks_of.Statement.{statement}
 use Rattle.local_sets.proofs.marks_of.Tie as tie
 

@@ -11,7 +11,6 @@ use mir.Val.{toZ, ofZ, SFits}
 use mir.Facts.{toZ-ofZ}
 use Rattle.lower_laws.specs.PairTest.{shares, test-is}
 use Rattle.words.specs.Sorted.{Sifted, sifted-none, sifted-more, sifted-end}
-use borrow.Author.Needs.{needs}
 use Rattle.local_sets.proofs.opposed.Statement.{statement}
 use Rattle.local_sets.proofs.opposed.Tie as tie
 

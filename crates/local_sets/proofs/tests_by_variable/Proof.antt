@@ -7,7 +7,6 @@ use lib.ListN.{getD, length}
 use Rattle.laws.specs.Terms.{bit}
 use Rattle.words.specs.Sorted.{Sorted, sorted-none, sorted-more}
 use Rattle.local_sets.specs.Sorting.{on-variable-end}
-use borrow.Author.Needs.{needs}
 use Rattle.local_sets.proofs.tests_by_variable.Statement.{statement}
 use Rattle.local_sets.proofs.tests_by_variable.Tie as tie
 

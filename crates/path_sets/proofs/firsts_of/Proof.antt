@@ -10,7 +10,6 @@ use Rattle.words.specs.Filled.{Told, told-none, told-more, told-end}
 use Rattle.laws.specs.Sets.{bit-none}
 use Rattle.path_sets.specs.declared.Reach.{Reach}
 use Rattle.path_sets.specs.Parts.{AssignedAt, LedAt, OnTest}
-use borrow.Author.Needs.{needs}
 use Rattle.path_sets.proofs.firsts_of.Statement.{statement}
 use Rattle.path_sets.proofs.firsts_of.Tie as tie
 

@@ -9,7 +9,6 @@ use Rattle.laws.specs.Terms.{bit}
 use Rattle.laws.specs.Sets.{bit-none}
 use Rattle.words.specs.Filled.{Told, told-none, told-more, told-end}
 use Rattle.path_sets.specs.Parts.{ListedAt}
-use borrow.Author.Needs.{needs}
 use Rattle.path_sets.proofs.listed_rows.Statement.{statement}
 use Rattle.path_sets.proofs.listed_rows.Tie as tie
 

@@ -10,7 +10,6 @@ use lib.ListN.{getD, length}
 use Rattle.laws.specs.Sets.{test-true}
 use Rattle.words.specs.Sorted.{Sorted, sorted-none, sorted-more, least-some}
 use Rattle.path_sets.specs.Sorting.{lowest-firsts-end}
-use borrow.Author.Needs.{needs}
 use Rattle.path_sets.proofs.lowest_firsts.Statement.{statement}
 use Rattle.path_sets.proofs.lowest_firsts.Tie as tie
 

@@ -5,21 +5,6 @@ use borrow.Author.Needs.{needs}
 use Rattle.report.proofs.entries.Statement.{statement}
 use Rattle.report.proofs.entries.Tie as tie
 
-array-borrow-prefix-none : tie.Need-array-borrow-prefix-none
-array-borrow-prefix-none c = search needs
-
-slice-aggregate-conflicts : tie.Need-slice-aggregate-conflicts
-slice-aggregate-conflicts c = search needs
-
-conflicts-requires : tie.Need-conflicts-requires
-conflicts-requires c κs = search needs
-
-enum-known-count : tie.Need-enum-known-count
-enum-known-count c = search needs
-
-enum-known-place : tie.Need-enum-known-place
-enum-known-place c = search needs
-
 returns : tie.Need-returns
 returns c =
     λ a.
@@ -36,10 +21,10 @@ pub entries-spec : {M : Type 1} → statement M
 entries-spec =
     tie.close
     (tie.spec
-    array-borrow-prefix-none
-    slice-aggregate-conflicts
-    conflicts-requires
-    enum-known-count
-    enum-known-place
+    (λ c. search needs)
+    (λ c. search needs)
+    (λ c κs. search needs)
+    (λ c. search needs)
+    (λ c. search needs)
     returns
     returns-2)

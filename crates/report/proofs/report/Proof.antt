@@ -5,33 +5,6 @@ use borrow.Author.Needs.{needs}
 use Rattle.report.proofs.report.Statement.{statement}
 use Rattle.report.proofs.report.Tie as tie
 
-slice-aggregate-sweep-own : tie.Need-slice-aggregate-sweep-own
-slice-aggregate-sweep-own c = search needs
-
-sweep-own-requires : tie.Need-sweep-own-requires
-sweep-own-requires c κs = search needs
-
-enum-known-iterations : tie.Need-enum-known-iterations
-enum-known-iterations c = search needs
-
-five-lines-requires : tie.Need-five-lines-requires
-five-lines-requires c κs = search needs
-
-three-lines-requires : tie.Need-three-lines-requires
-three-lines-requires c κs = search needs
-
-enum-known-number : tie.Need-enum-known-number
-enum-known-number c = search needs
-
-cast-refused : tie.Need-cast-refused
-cast-refused c = search needs
-
-refused-requires : tie.Need-refused-requires
-refused-requires c κs = search needs
-
-same-length : tie.Need-same-length
-same-length c = search needs
-
 returns : tie.Need-returns
 returns c =
     let last = c .before .before in
@@ -46,9 +19,6 @@ returns c =
       ),
     )
 
-same-length-2 : tie.Need-same-length-2
-same-length-2 c = search needs
-
 returns-2 : tie.Need-returns-2
 returns-2 c =
     let last = c .before .before in
@@ -60,15 +30,15 @@ pub report-spec : {M : Type 1} → statement M
 report-spec =
     tie.close
     (tie.spec
-    slice-aggregate-sweep-own
-    sweep-own-requires
-    enum-known-iterations
-    five-lines-requires
-    three-lines-requires
-    enum-known-number
-    cast-refused
-    refused-requires
-    same-length
+    (λ c. search needs)
+    (λ c κs. search needs)
+    (λ c. search needs)
+    (λ c κs. search needs)
+    (λ c κs. search needs)
+    (λ c. search needs)
+    (λ c. search needs)
+    (λ c κs. search needs)
+    (λ c. search needs)
     returns
-    same-length-2
+    (λ c. search needs)
     returns-2)

@@ -5,21 +5,6 @@ use borrow.Author.Needs.{needs}
 use Rattle.report.proofs.three_lines.Statement.{statement}
 use Rattle.report.proofs.three_lines.Tie as tie
 
-route-requires : tie.Need-route-requires
-route-requires c κs = search needs
-
-slice-aggregate-line : tie.Need-slice-aggregate-line
-slice-aggregate-line c = search needs
-
-line-requires : tie.Need-line-requires
-line-requires c κs = search needs
-
-walked-line-requires : tie.Need-walked-line-requires
-walked-line-requires c κs = search needs
-
-same-length : tie.Need-same-length
-same-length c = search needs
-
 returns : tie.Need-returns
 returns c =
     let third = c .before .before in
@@ -38,9 +23,9 @@ pub three-lines-spec : {M : Type 1} → statement M
 three-lines-spec =
     tie.close
     (tie.spec
-    route-requires
-    slice-aggregate-line
-    line-requires
-    walked-line-requires
-    same-length
+    (λ c κs. search needs)
+    (λ c. search needs)
+    (λ c κs. search needs)
+    (λ c κs. search needs)
+    (λ c. search needs)
     returns)

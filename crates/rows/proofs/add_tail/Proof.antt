@@ -10,12 +10,6 @@ use borrow.Author.Needs.{needs}
 use Rattle.rows.proofs.add_tail.Statement.{statement}
 use Rattle.rows.proofs.add_tail.Tie as tie
 
-hits-requires : tie.Need-hits-requires
-hits-requires c κs = search needs
-
-hits-requires-2 : tie.Need-hits-requires-2
-hits-requires-2 c κs = search needs
-
 returns : tie.Need-returns
 returns c =
     let both = c .before in
@@ -26,21 +20,6 @@ returns c =
     (sym (pushed-dropped (a .jumps) (a .falls) (a .cost) (tupleOf (a .tail)) r (both .before .hits .result)
     (both .hits2 .result) (both .before .hits .ensures) (both .hits2 .ensures) (c .if1 .taken)))
     (grown-none (a .row .now) (a .held) (start .pre .0 .1))
-
-add-t10 : tie.Need-add-t10
-add-t10 c = search needs
-
-opened-requires : tie.Need-opened-requires
-opened-requires c κs = search needs
-
-opened-requires-2 : tie.Need-opened-requires-2
-opened-requires-2 c κs = search needs
-
-insert-requires : tie.Need-insert-requires
-insert-requires c κs = search needs
-
-same-length : tie.Need-same-length
-same-length c = search needs
 
 returns-2 : tie.Need-returns-2
 returns-2 c =
@@ -61,12 +40,12 @@ pub add-tail-spec : {M : Type 1} → statement M
 add-tail-spec =
     tie.close
     (tie.spec
-    hits-requires
-    hits-requires-2
+    (λ c κs. search needs)
+    (λ c κs. search needs)
     returns
-    add-t10
-    opened-requires
-    opened-requires-2
-    insert-requires
-    same-length
+    (λ c. search needs)
+    (λ c κs. search needs)
+    (λ c κs. search needs)
+    (λ c κs. search needs)
+    (λ c. search needs)
     returns-2)

@@ -12,17 +12,8 @@ use borrow.Author.Needs.{needs}
 use Rattle.rows.proofs.begin.Statement.{statement}
 use Rattle.rows.proofs.begin.Tie as tie
 
-add-if1 : tie.Need-add-if1
-add-if1 c = search needs
-
-cost-requires : tie.Need-cost-requires
-cost-requires c κs = search needs
-
 put-entry-requires : tie.Need-put-entry-requires
 put-entry-requires c κs = omega (arith, ap length (c .before .before .before .before .before .pre .1 .1) ∙ zero-length)
-
-same-length : tie.Need-same-length
-same-length c = search needs
 
 returns : tie.Need-returns
 returns c =
@@ -43,4 +34,4 @@ returns-2 c =
 
 pub begin-spec : {M : Type 1} → statement M
 begin-spec =
-    tie.close (tie.spec add-if1 cost-requires put-entry-requires same-length returns returns-2)
+    tie.close (tie.spec (λ c. search needs) (λ c κs. search needs) put-entry-requires (λ c. search needs) returns returns-2)

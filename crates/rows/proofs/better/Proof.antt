@@ -25,9 +25,6 @@ cast-has : tie.Need-cast-has
 cast-has c = let a = c .before .before .before .before .before .before .before .before .args in omega
     (arith, trailing-le 64 (bitXor (a .one .jumped) (a .other .jumped)))
 
-has-requires : tie.Need-has-requires
-has-requires c κs = search needs
-
 returns-3 : tie.Need-returns-3
 unfolding earlier
 returns-3 c =
@@ -41,4 +38,4 @@ returns-3 c =
     ) (c .has .ensures)
 
 pub better-spec : {M : Type 1} → statement M
-better-spec = tie.close (tie.spec returns returns-2 cast-has has-requires returns-3)
+better-spec = tie.close (tie.spec returns returns-2 cast-has (λ c κs. search needs) returns-3)

@@ -116,12 +116,6 @@ add-tail-requires c κs =
     let tail = c .before in
     let f = tail .before .before .loop .inv .0 in ((f .size, f .few), light tail)
 
-add-i : tie.Need-add-i Inv-loop μ-loop Inv-ways μ-ways
-add-i c = omega arith
-
-loop-less : tie.Need-loop-less Inv-loop μ-loop Inv-ways μ-ways
-loop-less c = omega arith
-
 loop-again : tie.Need-loop-again Inv-loop μ-loop Inv-ways μ-ways
 loop-again c =
     let added = c .before .before .before in
@@ -137,12 +131,6 @@ loop-again c =
           (turn .loop-test .taken) _ (added .add-tail .result) (grown added) (new-size added) (c .if1 .left),
       omega arith,
     )
-
-add-way : tie.Need-add-way Inv-loop μ-loop Inv-ways μ-ways
-add-way c = omega arith
-
-ways-less : tie.Need-ways-less Inv-loop μ-loop Inv-ways μ-ways
-ways-less c = omega arith
 
 ways-again : tie.Need-ways-again Inv-loop μ-loop Inv-ways μ-ways
 ways-again c =
@@ -220,11 +208,11 @@ build-spec =
     loop-holds
     tail-of-requires
     add-tail-requires
-    add-i
-    loop-less
+    (λ c. omega arith)
+    (λ c. omega arith)
     loop-again
-    add-way
-    ways-less
+    (λ c. omega arith)
+    (λ c. omega arith)
     ways-again
     same-length
     returns

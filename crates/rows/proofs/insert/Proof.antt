@@ -9,12 +9,6 @@ use borrow.Author.Needs.{needs}
 use Rattle.rows.proofs.insert.Statement.{statement}
 use Rattle.rows.proofs.insert.Tie as tie
 
-place-of-requires : tie.Need-place-of-requires
-place-of-requires c κs = search needs
-
-is-held-requires : tie.Need-is-held-requires
-is-held-requires c κs = search needs
-
 -- the key is held at the place, or it is not
 held : (c : tie.Then1) →
     (c .before .before .before .place-of .result < c .before .before .before .before .before .before .args .held)
@@ -39,9 +33,6 @@ gone c =
 keep-better-requires : tie.Need-keep-better-requires
 keep-better-requires c κs = omega (arith, held (c .before) .0)
 
-same-length : tie.Need-same-length
-same-length c = search needs
-
 returns : tie.Need-returns
 returns c =
     let found = c .before .before .before .before in
@@ -51,15 +42,6 @@ returns c =
     grown-kept (a .row .now) (tupleOf (a .e)) (place .place-of .result) (a .held) (place .place-of .ensures)
     (start .pre .1) (start .pre .0)
     (held found .0) (held found .1) (c .before .before .keep-better .last .0) (c .before .before .keep-better .ensures)
-
-squeeze-in-requires : tie.Need-squeeze-in-requires
-squeeze-in-requires c κs = omega arith
-
-add-result : tie.Need-add-result
-add-result c = search needs
-
-same-length-2 : tie.Need-same-length-2
-same-length-2 c = search needs
 
 returns-2 : tie.Need-returns-2
 returns-2 c =
@@ -73,9 +55,6 @@ returns-2 c =
     (grown-new (a .row .now) e (place .place-of .result) (a .held) (place .place-of .ensures)
     (c .before .before .before .before .if2 .taken) (gone lost) (c .before .before .squeeze-in .last .0)
     (c .before .before .squeeze-in .ensures))
-
-same-length-3 : tie.Need-same-length-3
-same-length-3 c = search needs
 
 returns-3 : tie.Need-returns-3
 returns-3 c =
@@ -91,14 +70,14 @@ pub insert-spec : {M : Type 1} → statement M
 insert-spec =
     tie.close
     (tie.spec
-    place-of-requires
-    is-held-requires
+    (λ c κs. search needs)
+    (λ c κs. search needs)
     keep-better-requires
-    same-length
+    (λ c. search needs)
     returns
-    squeeze-in-requires
-    add-result
-    same-length-2
+    (λ c κs. omega arith)
+    (λ c. search needs)
+    (λ c. search needs)
     returns-2
-    same-length-3
+    (λ c. search needs)
     returns-3)

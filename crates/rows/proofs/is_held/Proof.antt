@@ -6,9 +6,6 @@ use borrow.Author.Needs.{needs}
 use Rattle.rows.proofs.is_held.Statement.{statement}
 use Rattle.rows.proofs.is_held.Tie as tie
 
-entry-at-requires : tie.Need-entry-at-requires
-entry-at-requires c κs = search needs
-
 returns : tie.Need-returns
 returns c =
     let read = c .before .before .before in
@@ -35,4 +32,4 @@ returns-3 : tie.Need-returns-3
 returns-3 c = let a = c .before .before .args in rw (le-ltb (a .p) (a .held) (c .if1 .left))
 
 pub is-held-spec : {M : Type 1} → statement M
-is-held-spec = tie.close (tie.spec entry-at-requires returns returns-2 returns-3)
+is-held-spec = tie.close (tie.spec (λ c κs. search needs) returns returns-2 returns-3)

@@ -7,18 +7,6 @@ use borrow.Author.Needs.{needs}
 use Rattle.rows.proofs.keep_better.Statement.{statement}
 use Rattle.rows.proofs.keep_better.Tie as tie
 
-entry-at-requires : tie.Need-entry-at-requires
-entry-at-requires c κs = search needs
-
-better-requires : tie.Need-better-requires
-better-requires c κs = search needs
-
-put-entry-requires : tie.Need-put-entry-requires
-put-entry-requires c κs = search needs
-
-same-length : tie.Need-same-length
-same-length c = search needs
-
 returns : tie.Need-returns
 returns c =
     let put = c .before .before in
@@ -27,9 +15,6 @@ returns c =
     let a = read .before .before .before .args in
     picked (a .row .now) (judged .better .ensures ∙ ap (λ (e : Entry). betterOf (tupleOf (a .e) .1) (wordsIn (e .way)))
     (read .entry-at .ensures)) (put .before .before .if1 .taken) (put .put-entry .ensures)
-
-same-length-2 : tie.Need-same-length-2
-same-length-2 c = search needs
 
 returns-2 : tie.Need-returns-2
 returns-2 c =
@@ -44,10 +29,10 @@ pub keep-better-spec : {M : Type 1} → statement M
 keep-better-spec =
     tie.close
     (tie.spec
-    entry-at-requires
-    better-requires
-    put-entry-requires
-    same-length
+    (λ c κs. search needs)
+    (λ c κs. search needs)
+    (λ c κs. search needs)
+    (λ c. search needs)
     returns
-    same-length-2
+    (λ c. search needs)
     returns-2)

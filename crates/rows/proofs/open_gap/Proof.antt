@@ -19,21 +19,6 @@ abbrev μ-loop : tie.MeasureT-loop
 loop-holds : tie.Need-loop-holds Inv-loop μ-loop
 loop-holds c = ((moving-none (c .before .args .row .now) (c .before .args .to), omega arith), omega arith)
 
-sub-entry-at : tie.Need-sub-entry-at Inv-loop μ-loop
-sub-entry-at c = omega arith
-
-entry-at-requires : tie.Need-entry-at-requires Inv-loop μ-loop
-entry-at-requires c κs = omega arith
-
-put-entry-requires : tie.Need-put-entry-requires Inv-loop μ-loop
-put-entry-requires c κs = omega arith
-
-sub-i : tie.Need-sub-i Inv-loop μ-loop
-sub-i c = omega arith
-
-loop-less : tie.Need-loop-less Inv-loop μ-loop
-loop-less c = omega arith
-
 loop-again : tie.Need-loop-again Inv-loop μ-loop
 loop-again c =
     let put = c .before .before in
@@ -68,11 +53,11 @@ open-gap-spec =
     Inv-loop
     μ-loop
     loop-holds
-    sub-entry-at
-    entry-at-requires
-    put-entry-requires
-    sub-i
-    loop-less
+    (λ c. omega arith)
+    (λ c κs. omega arith)
+    (λ c κs. omega arith)
+    (λ c. omega arith)
+    (λ c. omega arith)
     loop-again
     same-length
     returns)

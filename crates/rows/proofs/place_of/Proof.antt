@@ -36,9 +36,6 @@ loop-holds c = (omega arith, λ i h. absurd (never i h))
     never : (i : ℕ) → i < 0 → ⊥
     never i h = omega arith
 
-entry-at-requires : tie.Need-entry-at-requires Inv-loop μ-loop
-entry-at-requires c κs = omega arith
-
 before-requires : tie.Need-before-requires Inv-loop μ-loop
 before-requires c κs = tt
 
@@ -49,12 +46,6 @@ returns c = record {
   stop = λ h. sym
       (judged (c .before)) ∙ not-true _ (c .if1 .taken);
 }
-
-add-p : tie.Need-add-p Inv-loop μ-loop
-add-p c = omega arith
-
-loop-less : tie.Need-loop-less Inv-loop μ-loop
-loop-less c = omega arith
 
 loop-again : tie.Need-loop-again Inv-loop μ-loop
 loop-again c = (
@@ -76,10 +67,10 @@ place-of-spec =
     Inv-loop
     μ-loop
     loop-holds
-    entry-at-requires
+    (λ c κs. omega arith)
     before-requires
     returns
-    add-p
-    loop-less
+    (λ c. omega arith)
+    (λ c. omega arith)
     loop-again
     returns-2)

@@ -9,15 +9,6 @@ use borrow.Author.Needs.{needs}
 use Rattle.rows.proofs.squeeze_in.Statement.{statement}
 use Rattle.rows.proofs.squeeze_in.Tie as tie
 
-open-gap-requires : tie.Need-open-gap-requires
-open-gap-requires c κs = search needs
-
-put-entry-requires : tie.Need-put-entry-requires
-put-entry-requires c κs = search needs
-
-same-length : tie.Need-same-length
-same-length c = search needs
-
 returns : tie.Need-returns
 returns c =
     let put = c .before .before in
@@ -30,4 +21,4 @@ returns c =
     (omega (arith, start .pre .1, gap .open-gap .kept .0)) (gap .open-gap .ensures))
 
 pub squeeze-in-spec : {M : Type 1} → statement M
-squeeze-in-spec = tie.close (tie.spec open-gap-requires put-entry-requires same-length returns)
+squeeze-in-spec = tie.close (tie.spec (λ c κs. search needs) (λ c κs. search needs) (λ c. search needs) returns)

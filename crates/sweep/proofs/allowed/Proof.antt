@@ -8,9 +8,6 @@ use Rattle.sweep.proofs.allowed.Tie as tie
 returns : tie.Need-returns
 returns c = let a = c .before .args in rw (lt-ltb (a .bytes) (a .count) (c .if1 .taken))
 
-mul-if2 : tie.Need-mul-if2
-mul-if2 c = search needs
-
 returns-2 : tie.Need-returns-2
 returns-2 c = let a = c .before .before .args in rw
     (le-ltb (a .bytes) (a .count) (c .before .if1 .left), lt-ltb (a .entries) (64 * a .count) (c .if2 .taken))
@@ -20,4 +17,4 @@ returns-3 c = let a = c .before .before .args in rw
     (le-ltb (a .bytes) (a .count) (c .before .if1 .left), le-ltb (a .entries) (64 * a .count) (c .if2 .left))
 
 pub allowed-spec : {M : Type 1} → statement M
-allowed-spec = tie.close (tie.spec returns mul-if2 returns-2 returns-3)
+allowed-spec = tie.close (tie.spec returns (λ c. search needs) returns-2 returns-3)

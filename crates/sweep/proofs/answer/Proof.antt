@@ -14,20 +14,11 @@ use Rattle.sweep.proofs.answer.Tie as tie
 positive : (n : ℕ) → (n ≡ 0 → ⊥) → 0 < n
 positive n d = omega arith
 
-refuse-requires : tie.Need-refuse-requires
-refuse-requires c κs = search needs
-
 returns : tie.Need-returns
 returns c =
     let a = c .before .before .before .before .args in
     answer-none (a .count) (a .iterations) (a .kept) (a .found) (structAt (a .row .now) 0 .way) (a .route .now)
     (c .before .if1 .taken) (c .refuse .ensures)
-
-entry-at-requires : tie.Need-entry-at-requires
-entry-at-requires c κs = search needs
-
-write-route-requires : tie.Need-write-route-requires
-write-route-requires c κs = search needs
 
 mul-t14 : tie.Need-mul-t14
 mul-t14 c =
@@ -36,9 +27,6 @@ mul-t14 c =
     product (start .args .iterations) (read .entry-at .result .way .weight) (start .pre .0 .1 .1)
     (subst (λ (e : Entry). e .way .weight ≤ costLimit) (sym (read .entry-at .ensures))
     (start .pre .1 (positive (start .args .found) (read .before .if1 .left))))
-
-same-length : tie.Need-same-length
-same-length c = search needs
 
 returns-2 : tie.Need-returns-2
 returns-2 c =
@@ -54,10 +42,10 @@ pub answer-spec : {M : Type 1} → statement M
 answer-spec =
     tie.close
     (tie.spec
-    refuse-requires
+    (λ c κs. search needs)
     returns
-    entry-at-requires
-    write-route-requires
+    (λ c κs. search needs)
+    (λ c κs. search needs)
     mul-t14
-    same-length
+    (λ c. search needs)
     returns-2)

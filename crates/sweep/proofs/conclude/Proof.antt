@@ -10,16 +10,10 @@ use Rattle.sweep.proofs.conclude.Tie as tie
 zero : {n : ℕ} → n ≤ 0 → n ≡ 0
 zero h = omega arith
 
-refuse-requires : tie.Need-refuse-requires
-refuse-requires c κs = search needs
-
 returns : tie.Need-returns
 returns c =
     let a = c .before .before .before .before .args in
     unstarted (a .ready) (a .entries) (a .swept) (a .t4) (a .route .now) (c .before .if1 .taken) (c .refuse .ensures)
-
-refuse-requires-2 : tie.Need-refuse-requires-2
-refuse-requires-2 c κs = search needs
 
 returns-2 : tie.Need-returns-2
 returns-2 c =
@@ -28,33 +22,12 @@ returns-2 c =
     few-bytes (a .ready) (a .entries) (a .swept) (a .t4) (a .route .now) (some .if1 .left) (c .before .if2 .taken)
     (c .refuse2 .ensures)
 
-mul-if3 : tie.Need-mul-if3
-mul-if3 c = search needs
-
-mul-refuse : tie.Need-mul-refuse
-mul-refuse c = search needs
-
-refuse-requires-3 : tie.Need-refuse-requires-3
-refuse-requires-3 c κs = search needs
-
 returns-3 : tie.Need-returns-3
 returns-3 c =
     let bytes = c .before .before in
     let a = bytes .before .before .before .before .args in
     few-entries (a .ready) (a .entries) (a .swept) (a .t4) (a .route .now) (bytes .before .if1 .left)
     (bytes .if2 .left) (c .before .if3 .taken) (c .refuse3 .ensures)
-
-enum-known-swept : tie.Need-enum-known-swept
-enum-known-swept c = search needs
-
-refuse-requires-4 : tie.Need-refuse-requires-4
-refuse-requires-4 c κs = search needs
-
-enum-known-swept-2 : tie.Need-enum-known-swept-2
-enum-known-swept-2 c = search needs
-
-slice-aggregate-answer : tie.Need-slice-aggregate-answer
-slice-aggregate-answer c = search needs
 
 answer-requires : tie.Need-answer-requires
 answer-requires c κs =
@@ -74,9 +47,6 @@ returns-4 c =
     crowd (a .ready) (a .entries) (a .swept) (a .t4) (a .route .now) (memory .before .before .if1 .left)
     (memory .before .if2 .left) (memory .if3 .left) (told .swept .given .1) (c .refuse4 .ensures)
 
-same-length : tie.Need-same-length
-same-length c = search needs
-
 returns-5 : tie.Need-returns-5
 returns-5 c =
     let made = c .before .before in
@@ -90,19 +60,19 @@ pub conclude-spec : {M : Type 1} → statement M
 conclude-spec =
     tie.close
     (tie.spec
-    refuse-requires
+    (λ c κs. search needs)
     returns
-    refuse-requires-2
+    (λ c κs. search needs)
     returns-2
-    mul-if3
-    mul-refuse
-    refuse-requires-3
+    (λ c. search needs)
+    (λ c. search needs)
+    (λ c κs. search needs)
     returns-3
-    enum-known-swept
-    refuse-requires-4
-    enum-known-swept-2
-    slice-aggregate-answer
+    (λ c. search needs)
+    (λ c κs. search needs)
+    (λ c. search needs)
+    (λ c. search needs)
     answer-requires
     returns-4
-    same-length
+    (λ c. search needs)
     returns-5)

@@ -7,9 +7,6 @@ use borrow.Author.Needs.{needs}
 use Rattle.sweep.proofs.first_of.Statement.{statement}
 use Rattle.sweep.proofs.first_of.Tie as tie
 
-mul-result : tie.Need-mul-result
-mul-result c = search needs
-
 returns : tie.Need-returns
 returns c = sym (ap (λ (u : Bool). cond u (64 * c .before .args .t) 0) (lt-ltb (c .before .args .t) 64 (c .if1 .taken)))
 
@@ -18,4 +15,4 @@ returns-2 c = sym (ap (λ (u : Bool). cond u (64 * c .before .args .t) 0)
     (le-ltb (c .before .args .t) 64 (c .if1 .left)))
 
 pub first-of-spec : {M : Type 1} → statement M
-first-of-spec = tie.close (tie.spec mul-result returns returns-2)
+first-of-spec = tie.close (tie.spec (λ c. search needs) returns returns-2)

@@ -7,18 +7,6 @@ use Rattle.sweep.proofs.following_of.Tie as tie
 returns : tie.Need-returns
 returns c = let a = c .before .before .args in following-over (a .at) (a .found) (c .if1 .taken)
 
-sub-b : tie.Need-sub-b
-sub-b c = search needs
-
-cast-lengths : tie.Need-cast-lengths
-cast-lengths c = search needs
-
-array-write-lengths : tie.Need-array-write-lengths
-array-write-lengths c = search needs
-
-greater-requires : tie.Need-greater-requires
-greater-requires c κs = search needs
-
 returns-2 : tie.Need-returns-2
 returns-2 c =
     let a = c .before .before .before .before .args in
@@ -26,4 +14,4 @@ returns-2 c =
 
 pub following-of-spec : {M : Type 1} → statement M
 following-of-spec =
-    tie.close (tie.spec returns sub-b cast-lengths array-write-lengths greater-requires returns-2)
+    tie.close (tie.spec returns (λ c. search needs) (λ c. search needs) (λ c. search needs) (λ c κs. search needs) returns-2)

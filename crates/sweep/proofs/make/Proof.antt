@@ -7,24 +7,6 @@ use borrow.Author.Needs.{needs}
 use Rattle.sweep.proofs.make.Statement.{statement}
 use Rattle.sweep.proofs.make.Tie as tie
 
-slice-aggregate-begin : tie.Need-slice-aggregate-begin
-slice-aggregate-begin c = search needs
-
-begin-requires : tie.Need-begin-requires
-begin-requires c κs = search needs
-
-slice-aggregate-build : tie.Need-slice-aggregate-build
-slice-aggregate-build c = search needs
-
-build-requires : tie.Need-build-requires
-build-requires c κs = search needs
-
-mul-t15 : tie.Need-mul-t15
-mul-t15 c = search needs
-
-whole-of-requires : tie.Need-whole-of-requires
-whole-of-requires c κs = search needs
-
 returns : tie.Need-returns
 returns c =
     let built = c .before .before in
@@ -41,10 +23,10 @@ pub make-spec : {M : Type 1} → statement M
 make-spec =
     tie.close
     (tie.spec
-    slice-aggregate-begin
-    begin-requires
-    slice-aggregate-build
-    build-requires
-    mul-t15
-    whole-of-requires
+    (λ c. search needs)
+    (λ c κs. search needs)
+    (λ c. search needs)
+    (λ c κs. search needs)
+    (λ c. search needs)
+    (λ c κs. search needs)
     returns)

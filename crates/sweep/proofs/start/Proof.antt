@@ -4,9 +4,6 @@ use borrow.Author.Needs.{needs}
 use Rattle.sweep.proofs.start.Statement.{statement}
 use Rattle.sweep.proofs.start.Tie as tie
 
-no-lengths-requires : tie.Need-no-lengths-requires
-no-lengths-requires c κs = search needs
-
 returns : tie.Need-returns
 returns c =
     let n = c .before .before .args .count in (
@@ -16,4 +13,4 @@ returns c =
     )
 
 pub start-spec : {M : Type 1} → statement M
-start-spec = tie.close (tie.spec no-lengths-requires returns)
+start-spec = tie.close (tie.spec (λ c κs. search needs) returns)

@@ -26,12 +26,6 @@ ways c = entry c .good .1 .1 .0 .1 .0 .1
 room : (c : tie.At-loop Inv-loop μ-loop) → c .loop .to + 1 + 22 * (64 - c .loop .block) ≤ length (c .loop .out)
 room c = omega (arith, c .before .before .before .put .ensures .1 .end, c .before .before .before .put .kept .0, entry c .pre)
 
-slice-aggregate-put : tie.Need-slice-aggregate-put Inv-loop μ-loop
-slice-aggregate-put c = refl
-
-put-requires : tie.Need-put-requires Inv-loop μ-loop
-put-requires c κs = omega arith
-
 loop-holds : tie.Need-loop-holds Inv-loop μ-loop
 loop-holds c = (begun _ _ _, (omega arith, (omega arith, refl)))
 
@@ -41,20 +35,11 @@ array-read-step c = omega (arith, ways (c .before .before))
 step-requires : tie.Need-step-requires Inv-loop μ-loop
 step-requires c κs = omega (arith, room (c .before .before))
 
-add-block : tie.Need-add-block Inv-loop μ-loop
-add-block c = omega arith
-
-loop-less : tie.Need-loop-less Inv-loop μ-loop
-loop-less c = omega arith
-
 loop-again : tie.Need-loop-again Inv-loop μ-loop
 loop-again c =
     let stepped = c .before .before in
     let head = stepped .before .before .before in
     (turned (head .loop .inv .0) (omega (arith, ways head)) (stepped .step .ensures .0), (omega (arith, stepped .step .ensures .1), (omega arith, stepped .step .kept .0 ∙ head .loop .inv .1 .1 .1)))
-
-slice-aggregate-put-2 : tie.Need-slice-aggregate-put-2 Inv-loop μ-loop
-slice-aggregate-put-2 c = refl
 
 put-requires-2 : tie.Need-put-requires-2 Inv-loop μ-loop
 put-requires-2 c κs = omega (arith, room (c .before .before .before))
@@ -78,15 +63,15 @@ route-spec =
     (tie.spec
     Inv-loop
     μ-loop
-    slice-aggregate-put
-    put-requires
+    (λ c. refl)
+    (λ c κs. omega arith)
     loop-holds
     array-read-step
     step-requires
-    add-block
-    loop-less
+    (λ c. omega arith)
+    (λ c. omega arith)
     loop-again
-    slice-aggregate-put-2
+    (λ c. refl)
     put-requires-2
     same-length
     returns)

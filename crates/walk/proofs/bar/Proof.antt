@@ -10,18 +10,6 @@ use borrow.Author.Needs.{needs}
 use Rattle.walk.proofs.bar.Statement.{statement}
 use Rattle.walk.proofs.bar.Tie as tie
 
-against-requires : tie.Need-against-requires
-against-requires c κs = search needs
-
-either-requires : tie.Need-either-requires
-either-requires c κs = search needs
-
-against-requires-2 : tie.Need-against-requires-2
-against-requires-2 c κs = search needs
-
-either-requires-2 : tie.Need-either-requires-2
-either-requires-2 c κs = search needs
-
 returns : tie.Need-returns
 returns c =
     let start = c .before .before .before .before .before .before in
@@ -39,4 +27,4 @@ returns c =
 pub bar-spec : {M : Type 1} → statement M
 bar-spec =
     tie.close
-    (tie.spec against-requires either-requires against-requires-2 either-requires-2 returns)
+    (tie.spec (λ c κs. search needs) (λ c κs. search needs) (λ c κs. search needs) (λ c κs. search needs) returns)

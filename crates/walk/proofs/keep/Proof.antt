@@ -7,12 +7,6 @@ use borrow.Author.Needs.{needs}
 use Rattle.walk.proofs.keep.Statement.{statement}
 use Rattle.walk.proofs.keep.Tie as tie
 
-element-copy-out-if1 : tie.Need-element-copy-out-if1
-element-copy-out-if1 c = search needs
-
-element-copy-out-if2 : tie.Need-element-copy-out-if2
-element-copy-out-if2 c = search needs
-
 returns : tie.Need-returns
 returns c =
     let a = c .before .before .before .before .before .args in
@@ -25,4 +19,4 @@ returns-2 c =
     (λ any. ⊎-elim (λ w. w .3 .left) (λ w. absurd (w .left any)) (c .before .if1 .came))
 
 pub keep-spec : {M : Type 1} → statement M
-keep-spec = tie.close (tie.spec element-copy-out-if1 element-copy-out-if2 returns returns-2)
+keep-spec = tie.close (tie.spec (λ c. search needs) (λ c. search needs) returns returns-2)

@@ -5,12 +5,9 @@ use borrow.Author.Needs.{needs}
 use Rattle.walk.proofs.open.Statement.{statement}
 use Rattle.walk.proofs.open.Tie as tie
 
-shr-result : tie.Need-shr-result
-shr-result c = search needs
-
 returns : tie.Need-returns
 unfolding bit
 returns c = refl
 
 pub open-spec : {M : Type 1} → statement M
-open-spec = tie.close (tie.spec shr-result returns)
+open-spec = tie.close (tie.spec (λ c. search needs) returns)

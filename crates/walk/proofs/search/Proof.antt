@@ -11,18 +11,6 @@ walk-from-requires c κs =
     let a = c .before .args in
     standing-first (a .plan .now) (a .count) (a .budget) (c .before .pre .0) (c .before .pre .1)
 
-array-read-any : tie.Need-array-read-any
-array-read-any c = search needs
-
-array-read-weight : tie.Need-array-read-weight
-array-read-weight c = search needs
-
-array-read-jumped : tie.Need-array-read-jumped
-array-read-jumped c = search needs
-
-array-read-fallen : tie.Need-array-read-fallen
-array-read-fallen c = search needs
-
 returns : tie.Need-returns
 returns c =
     let a = c .before .before .args in
@@ -36,8 +24,8 @@ search-spec =
     tie.close
     (tie.spec
     walk-from-requires
-    array-read-any
-    array-read-weight
-    array-read-jumped
-    array-read-fallen
+    (λ c. search needs)
+    (λ c. search needs)
+    (λ c. search needs)
+    (λ c. search needs)
     returns)

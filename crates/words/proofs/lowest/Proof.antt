@@ -5,7 +5,6 @@ use native.Mathlib.Omega.{arith}
 use lib.Count.{trailing-le}
 use Rattle.laws.specs.Sets.{trailing-lt}
 use Rattle.words.specs.Sorted.{least-some}
-use borrow.Author.Needs.{needs}
 use Rattle.words.proofs.lowest.Statement.{statement}
 use Rattle.words.proofs.lowest.Tie as tie
 

@@ -2,7 +2,6 @@
 use mathlib.Core.Path.{ap, _∙_}
 use mathlib.Core.Bool.{Bool, _||_}
 use Rattle.laws.specs.Terms.{bit}
-use borrow.Author.Needs.{needs}
 use Rattle.words.proofs.renewed.Statement.{statement}
 use Rattle.words.proofs.renewed.Tie as tie
 
