@@ -244,11 +244,17 @@ fn bad_field(s: &[u8], at: usize) -> bool
     ensures { λ r. ⌜ r ≡ badField (now (s .entry)) at ⌝ }
 {
     let kind = kind_at(s, at);
-    let counter = bad_counter(counter_at(s, at));
-    let block = bad_block(block_at(s, at, 0));
-    let effect = bad_effect(effect_at(s, at));
     let role = kind.role;
-    ((role == COUNTER) & counter) | (((role == BLOCK) & block) | ((role == EFFECT) & effect))
+    if role == BLOCK {
+        return bad_block(block_at(s, at, 0));
+    }
+    if role == EFFECT {
+        return bad_effect(effect_at(s, at));
+    }
+    if role == COUNTER {
+        return bad_counter(counter_at(s, at));
+    }
+    false
 }
 
 // 16 of the record at `at`.
@@ -257,8 +263,10 @@ fn bad_target(s: &[u8], at: usize, b: usize) -> bool
     ensures { λ r. ⌜ r ≡ badTarget (now (s .entry)) at b ⌝ }
 {
     let kind = kind_at(s, at);
-    let low = low_target(block_at(s, at, 0), b);
-    (kind.role == BLOCK) & low
+    if kind.role == BLOCK {
+        return low_target(block_at(s, at, 0), b);
+    }
+    false
 }
 
 // 13: the first record no counter, a later counter, or an effect before any block.
@@ -311,15 +319,15 @@ fn end_fault(s: &[u8], at: usize, n: usize, k: usize) -> u32
     ensures { λ r. ⌜ r ≡ endFault (now (s .entry)) at n k ⌝ }
 {
     let kind = kind_at(s, at);
-    let block = block_at(s, at, 0);
-    let end = bad_end(block, n, k);
-    let far = far_target(block, n);
-    let role = kind.role;
-    refuse_if(
-        (role == BLOCK) & end,
-        18,
-        refuse_if((role == BLOCK) & far, 19, 0),
-    )
+    if kind.role == BLOCK {
+        let block = block_at(s, at, 0);
+        return refuse_if(
+            bad_end(block, n, k),
+            18,
+            refuse_if(far_target(block, n), 19, 0),
+        );
+    }
+    0
 }
 
 // 18 and 19, block by block of the n.
