@@ -25,8 +25,8 @@ use Rattle.form.specs.Relation.{eqZ}
 use Rattle.form.specs.Answer.{accepted}
 use Rattle.form.specs.Laying.{blocksCounted}
 use Rattle.form.specs.Records.{next, next-above, records-end, records-step, rest-leave, rest-pass, end-none}
-use Rattle.roundtrip.specs.Kinds.{of-role}
-use Rattle.roundtrip.specs.Filled.{effectsCounted, take-fill}
+use Rattle.roundtrip.specs.laying.Kinds.{of-role}
+use Rattle.roundtrip.specs.laying.Filled.{effectsCounted, take-fill}
 
 pub refused : {number place : ℕ} → Refused number place ≡ Accepted → ⊥
 refused e = clash (ap accepted e) refl

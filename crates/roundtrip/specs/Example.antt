@@ -11,9 +11,9 @@ use Rattle.laws.specs.Tests.{and-out}
 use Rattle.form.specs.declared.Verdict.the-variants.{Accepted, Refused}
 use Rattle.form.specs.Form.{kindOf, startsFor, recordsFrom, badField, badTarget, outOfPlace, overLimit, payloadFault}
 use Rattle.form.specs.Form.{recordFault, endFault, judgeEnds, judgeRecords, judge, bodyOf, lay}
-use Rattle.roundtrip.specs.Digits.{Each, each-byte}
+use Rattle.roundtrip.specs.laying.Digits.{Each, each-byte}
 use Rattle.roundtrip.specs.Sound.{WellFormed, well-formed}
-use Rattle.roundtrip.specs.WriteBack.{lay-back}
+use Rattle.roundtrip.specs.laying.WriteBack.{lay-back}
 
 abbrev pub trainers : ℕ → List ℕ
 trainers t =

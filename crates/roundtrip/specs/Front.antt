@@ -19,7 +19,7 @@ use Rattle.form.specs.Form.{isBlock, isEffect, oneIf, recordsFrom, badCounter, 
 use Rattle.form.specs.Form.{badTarget, outOfPlace, overLimit, payloadFault, recordFault, judgeRecords, judge}
 use Rattle.form.specs.Answer.{reading}
 use Rattle.form.specs.Records.{next, next-above, sized, rest-leave, rest-pass}
-use Rattle.roundtrip.specs.Kinds.{effect-length, length-same, kind-same, counter-same, block-same, effect-same}
+use Rattle.roundtrip.specs.laying.Kinds.{effect-length, length-same, kind-same, counter-same, block-same, effect-same}
 use Rattle.roundtrip.specs.Acceptance.{Passed, passed, RecordAt, counter, block, effect, record-at, counter-first}
 use Rattle.roundtrip.specs.Acceptance.{Passing, finish, accepted-form}
 

@@ -29,9 +29,9 @@ use Rattle.form.specs.Answer.{numberOf, Judged, ReadAs, asJudged, Wrote}
 use Rattle.form.specs.Laying.{blocksCounted, counts-known}
 use Rattle.form.specs.Records.{next, next-above, records-end, records-step}
 use Rattle.roundtrip.specs.Acceptance.{refused}
-use Rattle.roundtrip.specs.Filled.{effectsCounted}
-use Rattle.roundtrip.specs.Kinds.{Found, found-inside, counter-found, block-found, effect-found}
-use Rattle.roundtrip.specs.Laid.{Laid, none, block, effect, lays}
+use Rattle.roundtrip.specs.laying.Filled.{effectsCounted}
+use Rattle.roundtrip.specs.laying.Kinds.{Found, found-inside, counter-found, block-found, effect-found}
+use Rattle.roundtrip.specs.laying.Laid.{Laid, none, block, effect, lays}
 use Rattle.roundtrip.specs.Unique.{counts-add, lay-counted}
 
 -- ---- verdicts whose number is of a kind

@@ -29,8 +29,8 @@ use Rattle.form.specs.Form.{sumOwn, countsFit}
 use Rattle.form.specs.Conflict.{block as block-of, effectsBelow, effectsOf, exitsBy, exits, Onward, Sound}
 use Rattle.form.specs.Laying.{blocksCounted}
 use Rattle.form.specs.Records.{next}
-use Rattle.roundtrip.specs.Digits.{zero-fits, signed4-fits}
-use Rattle.roundtrip.specs.Filled.{effectsCounted, fill-length}
+use Rattle.roundtrip.specs.laying.Digits.{zero-fits, signed4-fits}
+use Rattle.roundtrip.specs.laying.Filled.{effectsCounted, fill-length}
 use Rattle.roundtrip.specs.Acceptance.{judged-out, no-fault, second-fails, no-target, some-before, one-more}
 use Rattle.roundtrip.specs.Acceptance.{BlockRecord, EffectRecord, Passing, finish, block, effect, AcceptedForm}
 use Rattle.roundtrip.specs.Acceptance.{accepted-form, Counts, counts, blocks-after, effects-after, blocks-read}

@@ -19,12 +19,12 @@ use Rattle.form.specs.Form.{when, counterAt, zeroBlock, zeroEffect, bodyWith, b
 use Rattle.form.specs.Form.{countsFit, judge}
 use Rattle.form.specs.Answer.{accepted, reading, asJudged, heldAfter}
 use Rattle.form.specs.Laying.{blocksCounted, counts-known}
-use Rattle.roundtrip.specs.Digits.{OfBytes}
-use Rattle.roundtrip.specs.Filled.{effectsCounted, take-fill}
+use Rattle.roundtrip.specs.laying.Digits.{OfBytes}
+use Rattle.roundtrip.specs.laying.Filled.{effectsCounted, take-fill}
 use Rattle.roundtrip.specs.Acceptance.{accepted-form, blocks-read, effects-read}
-use Rattle.roundtrip.specs.WriteBack.{written-back, lay-back}
+use Rattle.roundtrip.specs.laying.WriteBack.{written-back, lay-back}
 use Rattle.roundtrip.specs.Unique.{Owed, Same, counts-add}
-use Rattle.roundtrip.specs.ReadBack.{Held, reading-back}
+use Rattle.roundtrip.specs.laying.ReadBack.{Held, reading-back}
 
 -- ---- the same up to the counts
 

@@ -19,8 +19,8 @@ use Rattle.form.specs.Form.{when, judge, counterBytes, layBlocks, lay, sumOwn, 
 use Rattle.form.specs.Answer.{accepted, Judged, reading, asJudged, heldAfter, Wrote}
 use Rattle.form.specs.Laying.{blocksCounted}
 use Rattle.form.specs.Writing.{wrote-as, counts-refused}
-use Rattle.roundtrip.specs.Filled.{effectsCounted}
-use Rattle.roundtrip.specs.Laid.{lay-taken}
+use Rattle.roundtrip.specs.laying.Filled.{effectsCounted}
+use Rattle.roundtrip.specs.laying.Laid.{lay-taken}
 
 -- ---- one answer to each question
 

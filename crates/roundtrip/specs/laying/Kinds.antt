@@ -23,8 +23,8 @@ use Rattle.form.specs.Form.{when, byteAt, number2, number4, signed4, unknown, c
 use Rattle.form.specs.Form.{kindOf, lengthAt, kindNumber, kindAt, counterAt, blockAt, effectAt, counterBytes}
 use Rattle.form.specs.Form.{blockBytes, effectBytes, zeroBlock, zeroEffect}
 use Rattle.form.specs.Records.{next, next-above}
-use Rattle.roundtrip.specs.Digits.{OfBytes, Each, spread, spread-all, two, four, fits4, digits4, signed-again}
-use Rattle.roundtrip.specs.Digits.{zero-fits}
+use Rattle.roundtrip.specs.laying.Digits.{OfBytes, Each, spread, spread-all, two, four, fits4, digits4, signed-again}
+use Rattle.roundtrip.specs.laying.Digits.{zero-fits}
 
 -- ---- the table's numbers, by the role
 

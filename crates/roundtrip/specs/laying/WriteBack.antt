@@ -15,13 +15,13 @@ use Rattle.form.specs.Form.{counterBytes, layBlocks, lay, countsFit, judge}
 use Rattle.form.specs.Answer.{written, heldAfter}
 use Rattle.form.specs.Writing.{room-enough}
 use Rattle.form.specs.Records.{next}
-use Rattle.roundtrip.specs.Digits.{OfBytes}
-use Rattle.roundtrip.specs.Kinds.{counter-laid, block-laid, effect-laid}
+use Rattle.roundtrip.specs.laying.Digits.{OfBytes}
+use Rattle.roundtrip.specs.laying.Kinds.{counter-laid, block-laid, effect-laid}
 use Rattle.roundtrip.specs.Acceptance.{Passing, finish, block, effect, AcceptedForm, accepted-form, Counts}
 use Rattle.roundtrip.specs.Acceptance.{counts, blocks-after, effects-after, blocks-read, effects-read}
 use Rattle.roundtrip.specs.Sound.{well-formed, counts-fit}
-use Rattle.roundtrip.specs.Laid.{Laid, laid-as, none, block as laid-block, effect as laid-effect, laid-from-start}
-use Rattle.roundtrip.specs.Laid.{lay-taken}
+use Rattle.roundtrip.specs.laying.Laid.{Laid, laid-as, none, block as laid-block, effect as laid-effect, laid-from-start}
+use Rattle.roundtrip.specs.laying.Laid.{lay-taken}
 
 module _ (s : List ℕ) (h : OfBytes s) where
   -- what is left of a form is laid out from what is read of it

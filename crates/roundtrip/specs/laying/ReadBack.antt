@@ -19,12 +19,12 @@ use Rattle.form.specs.Form.{upToCounts, counterBytes, blockBytes, effectBytes, 
 use Rattle.form.specs.Answer.{reading}
 use Rattle.form.specs.Laying.{blocksCounted, counts-known}
 use Rattle.form.specs.Records.{next, records-end, records-step}
-use Rattle.roundtrip.specs.Digits.{OfBytes, Each, each-append, each-byte}
-use Rattle.roundtrip.specs.Kinds.{HeldCounter, HeldBlock, HeldEffect, zero-block, zero-effect, Found}
-use Rattle.roundtrip.specs.Kinds.{found-inside, counter-found, block-found, effect-found, counter-back}
-use Rattle.roundtrip.specs.Kinds.{block-back, effect-back, counter-each, block-each, effect-each}
-use Rattle.roundtrip.specs.Filled.{effectsCounted}
-use Rattle.roundtrip.specs.Laid.{Laid, none, block, effect, lays}
+use Rattle.roundtrip.specs.laying.Digits.{OfBytes, Each, each-append, each-byte}
+use Rattle.roundtrip.specs.laying.Kinds.{HeldCounter, HeldBlock, HeldEffect, zero-block, zero-effect, Found}
+use Rattle.roundtrip.specs.laying.Kinds.{found-inside, counter-found, block-found, effect-found, counter-back}
+use Rattle.roundtrip.specs.laying.Kinds.{block-back, effect-back, counter-each, block-each, effect-each}
+use Rattle.roundtrip.specs.laying.Filled.{effectsCounted}
+use Rattle.roundtrip.specs.laying.Laid.{Laid, none, block, effect, lays}
 use Rattle.roundtrip.specs.Unique.{counts-add, lay-counted}
 
 -- ---- fields that fit their types
