@@ -3,7 +3,7 @@ ghost use Rattle.io.specs.Counts.{Counts};
 use counter::Counted;
 use form::Written;
 use listing::Listed;
-use sweep::SweepAnswer;
+use sweep_steps::SweepAnswer;
 use walk::WalkAnswer;
 
 pub(crate) fn say(text: &[u8]) {

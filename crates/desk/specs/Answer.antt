@@ -10,8 +10,8 @@ use Rattle.form.specs.Answer.{accepted, numberOf, placeOf, writtenNumber, writt
 use Rattle.counter.specs.Answer as Counter
 use Rattle.walk.specs.Answer as Walk
 use Rattle.rows.specs.declared.Entry.{Entry}
-use Rattle.sweep.specs.Answer as Sweep
-use Rattle.sweep.specs.declared.SweepAnswer.{SweepAnswer}
+use Rattle.sweep_steps.specs.Answer as Sweep
+use Rattle.sweep_steps.specs.declared.SweepAnswer.{SweepAnswer}
 use Rattle.desk.specs.declared.CountAnswer.{CountAnswer}
 use Rattle.desk.specs.declared.FormAnswer.{FormAnswer}
 use Rattle.listing.specs.declared.Listed.{Listed}

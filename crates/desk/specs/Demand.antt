@@ -11,7 +11,7 @@ use Rattle.theory.specs.Route.{Path, dearest, stepCost}
 use Rattle.theory.specs.Run.{Run, runCost}
 use Rattle.rows.specs.declared.Entry.{Entry}
 use Rattle.walk.specs.Answer.{WalkOwed}
-use Rattle.sweep.specs.Answer.{SweepOwed, ownTable}
+use Rattle.sweep_steps.specs.Answer.{SweepOwed, ownTable}
 use Rattle.ways.specs.Answered.{answered-sound, Agree, answered-agree}
 use Rattle.ways.specs.Walk.{walk-answered}
 use Rattle.ways.specs.Sweep.{sweep-answered}

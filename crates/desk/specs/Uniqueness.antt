@@ -16,7 +16,7 @@ use Rattle.theory.specs.Route.{dearest}
 use Rattle.plan.specs.Accepted as Routes
 use Rattle.walk.specs.Answer as Walk
 use Rattle.rows.specs.declared.Entry.{Entry}
-use Rattle.sweep.specs.Answer as Sweep
+use Rattle.sweep_steps.specs.Answer as Sweep
 use Rattle.desk.specs.declared.CountAnswer.{CountAnswer}
 use Rattle.desk.specs.declared.FormAnswer.{FormAnswer}
 use Rattle.desk.specs.declared.ListNumbers.{ListNumbers}

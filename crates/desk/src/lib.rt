@@ -9,14 +9,14 @@ ghost use Rattle.pair.specs.Pair.{conflicting};
 ghost use Rattle.listing.specs.Answer.{listing, heldAfter};
 ghost use Rattle.counter.specs.Answer.{Owed};
 ghost use Rattle.walk.specs.Answer.{said, WalkOwed};
-ghost use Rattle.sweep.specs.Answer.{SweepOwed};
+ghost use Rattle.sweep_steps.specs.Answer.{SweepOwed};
 ghost use Rattle.desk.specs.Answer.{countValues, walkNumbers, walkValues, sweepNumbers, sweepValues, sweepSaid, sweptOutcome, OwnSweepOwed, listNumbers, formAnswer, verdictAnswer, writtenAnswer, rewriteAnswer, rewriteHeld};
 use counter::Counted;
 use form::Verdict;
 use form::Written;
 use listing::Listed;
 use rows::Entry;
-use sweep::SweepAnswer;
+use sweep_steps::SweepAnswer;
 use walk::WalkAnswer;
 
 // A refusal's number and place; number 0: none.

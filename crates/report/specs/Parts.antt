@@ -17,11 +17,11 @@ use Rattle.listing.specs.declared.Listed.{Listed}
 use Rattle.listing.specs.declared.Listed.the-variants.{Bytes, Refused as Unlisted}
 use Rattle.listing.specs.Answer.{listing, asJudged}
 use Rattle.listing.specs.Listing.{bytes-length}
-use Rattle.sweep.specs.declared.SweepAnswer.{SweepAnswer}
-use Rattle.sweep.specs.declared.SweepAnswer.the-variants.{Routed, Refused as Unswept}
+use Rattle.sweep_steps.specs.declared.SweepAnswer.{SweepAnswer}
+use Rattle.sweep_steps.specs.declared.SweepAnswer.the-variants.{Routed, Refused as Unswept}
 use Rattle.walk.specs.declared.WalkAnswer.{WalkAnswer}
 use Rattle.walk.specs.Answer.{WalkOwed, said}
-use Rattle.sweep.specs.Answer.{OwnTableOwed}
+use Rattle.sweep_steps.specs.Answer.{OwnTableOwed}
 use Rattle.ways.specs.Sweep.{own-answered}
 use Rattle.report.specs.Report.{walkedLine, blocksWord, iterationsWord, conflictsWord, weightWord, boundWord, keptWord, noRoute, budget, Reported}
 use Rattle.text.specs.Text.{line, refusalLine, routeLine}

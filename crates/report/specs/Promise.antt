@@ -20,8 +20,8 @@ use Rattle.theory.specs.Route.{Path, dearest, routeOn, stepCost, walked}
 use Rattle.theory.specs.Run.{Run, runCost}
 use Rattle.plan.specs.Owed.{Owed}
 use Rattle.plan.specs.Owed.Owed.{no-form, no-count, counted}
-use Rattle.sweep.specs.declared.SweepAnswer.the-variants.{Routed, Refused as Unswept}
-use Rattle.sweep.specs.Answer as sweep
+use Rattle.sweep_steps.specs.declared.SweepAnswer.the-variants.{Routed, Refused as Unswept}
+use Rattle.sweep_steps.specs.Answer as sweep
 use Rattle.walk.specs.declared.WalkAnswer.{WalkAnswer}
 use Rattle.walk.specs.declared.WalkAnswer.the-variants.{Walked, Refused}
 use Rattle.walk.specs.Answer as walk

@@ -8,11 +8,11 @@ use lib.ListN.{length, replicate}
 use Rattle.form.specs.declared.Body.{Body}
 use Rattle.form.specs.Form.{bodyOf}
 use Rattle.form.specs.Conflict.{conflicts}
-use Rattle.sweep.specs.declared.SweepAnswer.the-variants.{Routed, Refused as Unswept}
+use Rattle.sweep_steps.specs.declared.SweepAnswer.the-variants.{Routed, Refused as Unswept}
 use Rattle.walk.specs.declared.WalkAnswer.{WalkAnswer}
 use Rattle.walk.specs.declared.WalkAnswer.the-variants.{Walked, Refused}
 use Rattle.walk.specs.Answer.{WalkOwed, said}
-use Rattle.sweep.specs.Answer.{OwnTableOwed}
+use Rattle.sweep_steps.specs.Answer.{OwnTableOwed}
 use Rattle.text.specs.Text.{line, refusalLine, routeLine}
 
 -- ---- the words

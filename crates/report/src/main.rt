@@ -11,7 +11,7 @@ ghost use Rattle.report.specs.Report.{Reported};
 ghost use Rattle.lent.specs.Adding.{Adds};
 ghost use Rattle.report.specs.Parts.{WalkedAdds, ThreeAdds, fiveLines};
 use listing::Listed;
-use sweep::SweepAnswer;
+use sweep_steps::SweepAnswer;
 use walk::WalkAnswer;
 
 // How many entries the conflict list has: asked with no room, it tells the bytes that it needs, five an entry.

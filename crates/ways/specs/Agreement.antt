@@ -8,8 +8,8 @@ use Rattle.theory.specs.Route.{dearest}
 use Rattle.rows.specs.declared.Entry.{Entry}
 use Rattle.walk.specs.declared.WalkAnswer.the-variants.{Walked}
 use Rattle.walk.specs.Answer as walk
-use Rattle.sweep.specs.declared.SweepAnswer.the-variants.{Routed}
-use Rattle.sweep.specs.Answer as sweep
+use Rattle.sweep_steps.specs.declared.SweepAnswer.the-variants.{Routed}
+use Rattle.sweep_steps.specs.Answer as sweep
 use Rattle.ways.specs.Answered.{Agree, answered-agree, same-early}
 use Rattle.ways.specs.Walk.{walkCall, walk-answered}
 use Rattle.ways.specs.Sweep.{sweepCall, sweep-answered}

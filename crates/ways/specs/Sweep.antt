@@ -21,9 +21,9 @@ use Rattle.theory.specs.Run.{Run, runCost}
 use Rattle.plan.specs.Owed.{CountOf}
 use Rattle.plan.specs.Accepted.{owed-once}
 use Rattle.rows.specs.declared.Entry.{Entry}
-use Rattle.sweep.specs.declared.SweepAnswer.{SweepAnswer}
-use Rattle.sweep.specs.declared.SweepAnswer.the-variants.{Routed, Refused}
-use Rattle.sweep.specs.Answer.{Values, refusal, said, Outcome, outcomeOf, refused, routed, swept, sweepOutcome, SweepOwed, ownTable, OwnTableOwed}
+use Rattle.sweep_steps.specs.declared.SweepAnswer.{SweepAnswer}
+use Rattle.sweep_steps.specs.declared.SweepAnswer.the-variants.{Routed, Refused}
+use Rattle.sweep_steps.specs.Answer.{Values, refusal, said, Outcome, outcomeOf, refused, routed, swept, sweepOutcome, SweepOwed, ownTable, OwnTableOwed}
 use Rattle.ways.specs.Answered.{Answered, answered-sound, Call, no-refusal, gives}
 
 module _ (form : List ℕ) (lent : List ℕ) (table : List Entry) where

@@ -37,10 +37,10 @@ use denote.Triple.Table.{entered, cited}
 use denote.Triple.Walked.{says, Stays, stay-none-slice, gave-slice, walkOf, goes-none-slice, goes-gave-slice, Walks, ends-at, walked, walk-meets}
 use denote.Exit.{yes}
 use denote.Signature.{plain}
-use Rattle.sweep.proofs.SweepAnswer as S
-use Rattle.sweep.proofs.SweepAnswer.Laws as S′
-use Rattle.sweep.specs.declared.SweepAnswer.{SweepAnswer}
-use Rattle.sweep.specs.Answer.{Values, outcomeOf, SweepOwed}
+use Rattle.sweep_steps.proofs.SweepAnswer as S
+use Rattle.sweep_steps.proofs.SweepAnswer.Laws as S′
+use Rattle.sweep_steps.specs.declared.SweepAnswer.{SweepAnswer}
+use Rattle.sweep_steps.specs.Answer.{Values, outcomeOf, SweepOwed}
 use Rattle.rows.specs.declared.Entry.{Entry}
 use Rattle.desk.specs.declared.SweepNumbers.{SweepNumbers}
 use Rattle.desk.specs.Answer.{sweepValues, sweepSaid, sweptOutcome}

@@ -54,16 +54,16 @@ use denote.Exit.{yes}
 use denote.Signature.{plain}
 use Rattle.rows.specs.Entries.{entryPut}
 use Rattle.rows.specs.declared.Entry.{Entry}
-use Rattle.sweep.specs.Answer.{noEntry}
+use Rattle.sweep_steps.specs.Answer.{noEntry}
 use Rattle.rows.specs.Structs.{tupleOf}
-use Rattle.sweep.specs.Table.{fetched, fetched-none, fetched-more, fetched-length}
+use Rattle.sweep_steps.specs.Table.{fetched, fetched-none, fetched-more, fetched-length}
 use Rattle.sweep.proofs.Again.{LentAgain, lends-again, comes-back}
 use Rattle.rows.proofs.Entry as T
 use Rattle.rows.proofs.Entry.Laws as T′
-use Rattle.sweep.proofs.put_words as put-words
-use Rattle.sweep.proofs.put_words.Symbol as put-words-def
-use Rattle.sweep.proofs.put_words.Symbol.{name as #sweep·put-words}
-use Rattle.sweep.proofs.put_words.Met as put-words-thm
+use Rattle.sweep_steps.proofs.put_words as put-words
+use Rattle.sweep_steps.proofs.put_words.Symbol as put-words-def
+use Rattle.sweep_steps.proofs.put_words.Symbol.{name as #sweep-steps·put-words}
+use Rattle.sweep_steps.proofs.put_words.Met as put-words-thm
 use Rattle.sweep.proofs.fetch.Key.{name as #sweep·fetch}
 use Rattle.sweep.proofs.fetch as the-fetch
 use Rattle.sweep.proofs.fetch.Statement as stated
@@ -216,7 +216,7 @@ module _ {M : Type 1} (𝓤 : URA M) (H : Heap 𝓤) (A : Atoms 𝓤) (W : Given
       owned ! usize (Is usize) (uint-makes 𝓤 H A W w64) k _ (refl, omega (arith, small, n-fits)) $ fjoin ! $ move !
       (1 ∷ 0 ∷ []) $ fjoin ! $ done !
 
-  module _ (𝓣 : Tables 𝓤 H) (known : Triple 𝓤 (𝓣 .C #sweep·put-words) (PutWords 𝓤 H A mem run))
+  module _ (𝓣 : Tables 𝓤 H) (known : Triple 𝓤 (𝓣 .C #sweep-steps·put-words) (PutWords 𝓤 H A mem run))
       (l₀ l₁ l₂ l₃ l₄ l₅ l₆ l₇ l₈ l₉ l₁₀ l₁₁ l₁₂ l₁₃ : ℕ) where
     abbrev C : Calls 𝓤 H
     C = 𝓣 .C
@@ -384,7 +384,7 @@ module _ {M : Type 1} (𝓤 : URA M) (H : Heap 𝓤) (A : Atoms 𝓤) (W : Given
         (λ k. guardE 𝓤 (k + t ≡ n) (⋆ 𝓤 H A (At k)) (λ f. turn-at t k f))) n)
 
   -- the code up to the loop: the table's borrow is opened
-  walk : (𝓣 : Tables 𝓤 H) → Triple 𝓤 (𝓣 .C #sweep·put-words) (PutWords 𝓤 H A mem run)
+  walk : (𝓣 : Tables 𝓤 H) → Triple 𝓤 (𝓣 .C #sweep-steps·put-words) (PutWords 𝓤 H A mem run)
       → ent 𝓤 (onEntry 𝓤 H A the-fetch.signature (κ, (κ₁, tt)) (q, (q₁, tt)) a vals)
       (WpFn 𝓤 H (𝓣 .C) (𝓣 .Λ) code.function (s ∷ vint w64 start ∷ vint w64 n ∷ s₁ ∷ []) Post)
   walk 𝓣 known =
@@ -412,7 +412,7 @@ module _ {M : Type 1} (𝓤 : URA M) (H : Heap 𝓤) (A : Atoms 𝓤) (W : Given
 
 module _ {M : Type 1} (𝓤 : URA M) (H : Heap 𝓤) (A : Atoms 𝓤) (W : Given 𝓤 H A) (mem : Memory → SProp 𝓤)
     (run : Routine → Fun 𝓤) where
-  fetch-walks : (𝓣 : Tables 𝓤 H) → Triple 𝓤 (𝓣 .C #sweep·put-words) (PutWords 𝓤 H A mem run)
+  fetch-walks : (𝓣 : Tables 𝓤 H) → Triple 𝓤 (𝓣 .C #sweep-steps·put-words) (PutWords 𝓤 H A mem run)
       → Walks 𝓤 H A the-fetch.ended stayed (WpFn 𝓤 H (𝓣 .C) (𝓣 .Λ) code.function) (the-fetch.clauses 𝓤 H A mem run)
   fetch-walks 𝓣 known = walked 𝓤 H A the-fetch.ended stayed (the-fetch.clauses 𝓤 H A mem run)
       (WpFn 𝓤 H (𝓣 .C) (𝓣 .Λ) code.function)
@@ -432,7 +432,7 @@ module _ {M : Type 1} (𝓤 : URA M) (H : Heap 𝓤) (A : Atoms 𝓤) (W : Given
       (are .1 .1 .0 .1) (are .0 .0 .1) (are .1 .1 .1 .0 .0 .1) (h .0 .0) (h .0 .1) (h .1) 𝓣 known))
 
 fetch-meets : {M : Type 1} (𝓤 : URA M) (H : Heap 𝓤) (A : Atoms 𝓤) → Given 𝓤 H A → (mem : Memory → SProp 𝓤)
-    (run : Routine → Fun 𝓤) (𝓣 : Tables 𝓤 H) → Triple 𝓤 (𝓣 .C #sweep·put-words) (PutWords 𝓤 H A mem run)
+    (run : Routine → Fun 𝓤) (𝓣 : Tables 𝓤 H) → Triple 𝓤 (𝓣 .C #sweep-steps·put-words) (PutWords 𝓤 H A mem run)
     → Meets 𝓤 H A the-fetch.signature (WpFn 𝓤 H (𝓣 .C) (𝓣 .Λ) code.function) (the-fetch.spec 𝓤 H A mem run)
 fetch-meets 𝓤 H A W mem run 𝓣 known =
     walk-meets 𝓤 H A the-fetch.ended stayed W (
@@ -452,5 +452,5 @@ fetch-spec 𝓤 H 𝓜 𝓖 𝓡 =
     (tables 𝓤 H 𝓜 𝓡 code.env .C) (tables 𝓤 H 𝓜 𝓡 code.env .Λ) #sweep·fetch code.function (code.unfolded 𝓤 H 𝓜 𝓡)
     (fetch-meets 𝓤 H (𝓖 .A) (givenOf 𝓤 H 𝓜 𝓖) (𝓜 .mem) (𝓡 .run) (tablesOf 𝓤 H 𝓜 (tables 𝓤 H 𝓜 𝓡 code.env))
     (cited 𝓤 H (PutWords 𝓤 H (𝓖 .A) (𝓜 .mem)
-    (𝓡 .run)) 𝓜 𝓡 code.env #sweep·put-words put-words-def.routine code.calls-sweep·put-words
+    (𝓡 .run)) 𝓜 𝓡 code.env #sweep-steps·put-words put-words-def.routine code.calls-sweep-steps·put-words
     (put-words-thm.met 𝓤 H 𝓜 𝓖 𝓡)))

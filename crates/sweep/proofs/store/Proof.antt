@@ -56,14 +56,14 @@ use denote.Exit.{yes}
 use denote.Signature.{plain}
 use Rattle.rows.specs.declared.Entry.{Entry}
 use Rattle.rows.specs.Structs.{structAt}
-use Rattle.sweep.specs.Table.{stored, stored-none, stored-more, stored-length}
+use Rattle.sweep_steps.specs.Table.{stored, stored-none, stored-more, stored-length}
 use Rattle.sweep.proofs.Lent.{arrayTy, array-out, array-back, words-at, words-val, words-lent, lends-words, words-back}
 use Rattle.rows.proofs.Entry as T
 use Rattle.rows.proofs.Entry.Laws as T′
-use Rattle.sweep.proofs.entry_of as entry-of
-use Rattle.sweep.proofs.entry_of.Symbol as entry-of-def
-use Rattle.sweep.proofs.entry_of.Symbol.{name as #sweep·entry-of}
-use Rattle.sweep.proofs.entry_of.Met as entry-of-thm
+use Rattle.sweep_steps.proofs.entry_of as entry-of
+use Rattle.sweep_steps.proofs.entry_of.Symbol as entry-of-def
+use Rattle.sweep_steps.proofs.entry_of.Symbol.{name as #sweep-steps·entry-of}
+use Rattle.sweep_steps.proofs.entry_of.Met as entry-of-thm
 use Rattle.sweep.proofs.store.Key.{name as #sweep·store}
 use Rattle.sweep.proofs.store as the-store
 use Rattle.sweep.proofs.store.Statement as stated
@@ -214,7 +214,7 @@ module _ {M : Type 1} (𝓤 : URA M) (H : Heap 𝓤) (A : Atoms 𝓤) (W : Given
       asked : (k : ℕ) → k < n → 5 * suc k ≤ length ws
       asked k small = omega (arith, small, few, ws-length)
 
-  module _ (𝓣 : Tables 𝓤 H) (known : Triple 𝓤 (𝓣 .C #sweep·entry-of) (EntryOf 𝓤 H A mem run)) (ν : ℕ) (δ : GName)
+  module _ (𝓣 : Tables 𝓤 H) (known : Triple 𝓤 (𝓣 .C #sweep-steps·entry-of) (EntryOf 𝓤 H A mem run)) (ν : ℕ) (δ : GName)
       (l₀ l₁ l₂ l₃ l₄ l₅ l₆ l₇ l₈ l₉ l₁₀ l₁₁ l₁₂ l₁₃ : ℕ) where
     abbrev C : Calls 𝓤 H
     C = 𝓣 .C
@@ -379,7 +379,7 @@ module _ {M : Type 1} (𝓤 : URA M) (H : Heap 𝓤) (A : Atoms 𝓤) (W : Given
         (λ k. guardE 𝓤 (k + t ≡ n) (⋆ 𝓤 H A (At k)) (λ f. turn-at t k f))) n)
 
   -- the MIR up to the loop: the words are lent, and the borrow is opened
-  walk : (𝓣 : Tables 𝓤 H) → Triple 𝓤 (𝓣 .C #sweep·entry-of) (EntryOf 𝓤 H A mem run)
+  walk : (𝓣 : Tables 𝓤 H) → Triple 𝓤 (𝓣 .C #sweep-steps·entry-of) (EntryOf 𝓤 H A mem run)
       → ent 𝓤 (onEntry 𝓤 H A the-store.signature (κ, tt) (q, tt) a vals)
       (WpFn 𝓤 H (𝓣 .C) (𝓣 .Λ) code.function (s ∷ vint w64 start ∷ ws-val ∷ vint w64 n ∷ []) Post)
   walk 𝓣 known =
@@ -412,7 +412,7 @@ module _ {M : Type 1} (𝓤 : URA M) (H : Heap 𝓤) (A : Atoms 𝓤) (W : Given
 
 module _ {M : Type 1} (𝓤 : URA M) (H : Heap 𝓤) (A : Atoms 𝓤) (W : Given 𝓤 H A) (mem : Memory → SProp 𝓤)
     (run : Routine → Fun 𝓤) where
-  store-walks : (𝓣 : Tables 𝓤 H) → Triple 𝓤 (𝓣 .C #sweep·entry-of) (EntryOf 𝓤 H A mem run)
+  store-walks : (𝓣 : Tables 𝓤 H) → Triple 𝓤 (𝓣 .C #sweep-steps·entry-of) (EntryOf 𝓤 H A mem run)
       → Walks 𝓤 H A the-store.ended stayed (WpFn 𝓤 H (𝓣 .C) (𝓣 .Λ) code.function) (the-store.clauses 𝓤 H A mem run)
   store-walks 𝓣 known = walked 𝓤 H A the-store.ended stayed (the-store.clauses 𝓤 H A mem run)
       (WpFn 𝓤 H (𝓣 .C) (𝓣 .Λ) code.function)
@@ -430,7 +430,7 @@ module _ {M : Type 1} (𝓤 : URA M) (H : Heap 𝓤) (A : Atoms 𝓤) (W : Given
       (h .1) 𝓣 known))
 
 store-meets : {M : Type 1} (𝓤 : URA M) (H : Heap 𝓤) (A : Atoms 𝓤) → Given 𝓤 H A → (mem : Memory → SProp 𝓤)
-    (run : Routine → Fun 𝓤) (𝓣 : Tables 𝓤 H) → Triple 𝓤 (𝓣 .C #sweep·entry-of) (EntryOf 𝓤 H A mem run)
+    (run : Routine → Fun 𝓤) (𝓣 : Tables 𝓤 H) → Triple 𝓤 (𝓣 .C #sweep-steps·entry-of) (EntryOf 𝓤 H A mem run)
     → Meets 𝓤 H A the-store.signature (WpFn 𝓤 H (𝓣 .C) (𝓣 .Λ) code.function) (the-store.spec 𝓤 H A mem run)
 store-meets 𝓤 H A W mem run 𝓣 known =
     walk-meets 𝓤 H A the-store.ended stayed W (
@@ -453,5 +453,5 @@ store-spec 𝓤 H 𝓜 𝓖 𝓡 =
     (tables 𝓤 H 𝓜 𝓡 code.env .C) (tables 𝓤 H 𝓜 𝓡 code.env .Λ) #sweep·store code.function (code.unfolded 𝓤 H 𝓜 𝓡)
     (store-meets 𝓤 H (𝓖 .A) (givenOf 𝓤 H 𝓜 𝓖) (𝓜 .mem) (𝓡 .run) (tablesOf 𝓤 H 𝓜 (tables 𝓤 H 𝓜 𝓡 code.env))
     (cited 𝓤 H (EntryOf 𝓤 H (𝓖 .A) (𝓜 .mem)
-    (𝓡 .run)) 𝓜 𝓡 code.env #sweep·entry-of entry-of-def.routine code.calls-sweep·entry-of
+    (𝓡 .run)) 𝓜 𝓡 code.env #sweep-steps·entry-of entry-of-def.routine code.calls-sweep-steps·entry-of
     (entry-of-thm.met 𝓤 H 𝓜 𝓖 𝓡)))

@@ -54,43 +54,43 @@ use Rattle.plan.proofs.Prepared as P
 use Rattle.plan.proofs.Prepared.Laws as P′
 use Rattle.rows.specs.declared.Entry.{Entry}
 use Rattle.rows.proofs.Entry as T
-use Rattle.sweep.specs.declared.Swept.{Swept}
-use Rattle.sweep.specs.declared.SweepAnswer.{SweepAnswer}
-use Rattle.sweep.proofs.Swept as E
-use Rattle.sweep.proofs.Swept.Laws as E′
-use Rattle.sweep.proofs.SweepAnswer as S
-use Rattle.sweep.proofs.SweepAnswer.Laws as S′
-use Rattle.sweep.specs.Answer.{outcomeOf, SweepOwed}
+use Rattle.sweep_steps.specs.declared.Swept.{Swept}
+use Rattle.sweep_steps.specs.declared.SweepAnswer.{SweepAnswer}
+use Rattle.sweep_steps.proofs.Swept as E
+use Rattle.sweep_steps.proofs.Swept.Laws as E′
+use Rattle.sweep_steps.proofs.SweepAnswer as S
+use Rattle.sweep_steps.proofs.SweepAnswer.Laws as S′
+use Rattle.sweep_steps.specs.Answer.{outcomeOf, SweepOwed}
 use Rattle.rows.specs.Begun.{zeroRow}
-use Rattle.sweep.specs.Table.{fetched, fetched-length}
-use Rattle.sweep.specs.Turn.{same-words}
-use Rattle.sweep.specs.Ends.{allowedOf, concluded, WeightFew, Rowed, count-few, iterations-few, rows-asked, light, ended}
+use Rattle.sweep_steps.specs.Table.{fetched, fetched-length}
+use Rattle.sweep_steps.specs.Turn.{same-words}
+use Rattle.sweep_steps.specs.Ends.{allowedOf, concluded, WeightFew, Rowed, count-few, iterations-few, rows-asked, light, ended}
 use Rattle.sweep.proofs.Lent.{big-lit, arrayTy, repeated-length, repeated-typed, repeated-out, array-out, array-back, words-at, words-val, words-lent, lends-words, words-back}
 use Rattle.sweep.proofs.Again.{LentAgain, lends-again, comes-back}
-use Rattle.sweep.proofs.prepare as the-prepare
-use Rattle.sweep.proofs.prepare.Symbol as prepare-def
-use Rattle.sweep.proofs.prepare.Symbol.{name as #sweep·prepare}
-use Rattle.sweep.proofs.prepare.Met as prepare-thm
-use Rattle.sweep.proofs.allowed as the-allowed
-use Rattle.sweep.proofs.allowed.Symbol as allowed-def
-use Rattle.sweep.proofs.allowed.Symbol.{name as #sweep·allowed}
-use Rattle.sweep.proofs.allowed.Met as allowed-thm
+use Rattle.sweep_steps.proofs.prepare as the-prepare
+use Rattle.sweep_steps.proofs.prepare.Symbol as prepare-def
+use Rattle.sweep_steps.proofs.prepare.Symbol.{name as #sweep-steps·prepare}
+use Rattle.sweep_steps.proofs.prepare.Met as prepare-thm
+use Rattle.sweep_steps.proofs.allowed as the-allowed
+use Rattle.sweep_steps.proofs.allowed.Symbol as allowed-def
+use Rattle.sweep_steps.proofs.allowed.Symbol.{name as #sweep-steps·allowed}
+use Rattle.sweep_steps.proofs.allowed.Met as allowed-thm
 use Rattle.sweep.proofs.sweep_rows as the-rows
 use Rattle.sweep.proofs.sweep_rows.Symbol as sweep-rows-def
 use Rattle.sweep.proofs.sweep_rows.Symbol.{name as #sweep·sweep-rows}
 use Rattle.sweep.proofs.sweep_rows.Met as sweep-rows-thm
-use Rattle.sweep.proofs.lesser as the-lesser
-use Rattle.sweep.proofs.lesser.Symbol as lesser-def
-use Rattle.sweep.proofs.lesser.Symbol.{name as #sweep·lesser}
-use Rattle.sweep.proofs.lesser.Met as lesser-thm
+use Rattle.sweep_steps.proofs.lesser as the-lesser
+use Rattle.sweep_steps.proofs.lesser.Symbol as lesser-def
+use Rattle.sweep_steps.proofs.lesser.Symbol.{name as #sweep-steps·lesser}
+use Rattle.sweep_steps.proofs.lesser.Met as lesser-thm
 use Rattle.sweep.proofs.fetch as the-fetch
 use Rattle.sweep.proofs.fetch.Symbol as fetch-def
 use Rattle.sweep.proofs.fetch.Symbol.{name as #sweep·fetch}
 use Rattle.sweep.proofs.fetch.Met as fetch-thm
-use Rattle.sweep.proofs.conclude as the-conclude
-use Rattle.sweep.proofs.conclude.Symbol as conclude-def
-use Rattle.sweep.proofs.conclude.Symbol.{name as #sweep·conclude}
-use Rattle.sweep.proofs.conclude.Met as conclude-thm
+use Rattle.sweep_steps.proofs.conclude as the-conclude
+use Rattle.sweep_steps.proofs.conclude.Symbol as conclude-def
+use Rattle.sweep_steps.proofs.conclude.Symbol.{name as #sweep-steps·conclude}
+use Rattle.sweep_steps.proofs.conclude.Met as conclude-thm
 use Rattle.sweep.proofs.sweep.Key.{name as #sweep·sweep}
 use Rattle.sweep.proofs.sweep as the-sweep
 use Rattle.sweep.proofs.sweep.Statement as stated
@@ -405,12 +405,12 @@ module _ {M : Type 1} (𝓤 : URA M) (H : Heap 𝓤) (A : Atoms 𝓤) (W : Given
       owned ! S.the-row (Is S.the-row) (EL.makes S.the-type S′.the-plain 𝓤 H A) r _ is $ move ! (1 ∷ 0 ∷ []) $ done !
 
   module _ (C : Calls 𝓤 H) (Λ : Loops 𝓤 H) (fm : FmC 𝓤 H (W .laws) C)
-      (known-prepare : Triple 𝓤 (C #sweep·prepare) (Prepare 𝓤 H A mem run))
-      (known-allowed : Triple 𝓤 (C #sweep·allowed) (Allowed 𝓤 H A mem run))
+      (known-prepare : Triple 𝓤 (C #sweep-steps·prepare) (Prepare 𝓤 H A mem run))
+      (known-allowed : Triple 𝓤 (C #sweep-steps·allowed) (Allowed 𝓤 H A mem run))
       (known-sweep-rows : Triple 𝓤 (C #sweep·sweep-rows) (SweepRows 𝓤 H A mem run))
-      (known-lesser : Triple 𝓤 (C #sweep·lesser) (Lesser 𝓤 H A mem run))
+      (known-lesser : Triple 𝓤 (C #sweep-steps·lesser) (Lesser 𝓤 H A mem run))
       (known-fetch : Triple 𝓤 (C #sweep·fetch) (Fetch 𝓤 H A mem run))
-      (known-conclude : Triple 𝓤 (C #sweep·conclude) (Conclude 𝓤 H A mem run)) where
+      (known-conclude : Triple 𝓤 (C #sweep-steps·conclude) (Conclude 𝓤 H A mem run)) where
     -- _0 the answer; form, table, route; _4 what is prepared, _5 the plan, _6 the blocks, _7 what the rows came to, _8
     -- row 0; _9, _10 numbers; a pointer and a slice each: _11, _12 the plan, _13, _14 and _15, _16 the
     -- table, _17, _18 row 0, _20, _21 the route; _19 row 0 again
@@ -652,12 +652,12 @@ module _ {M : Type 1} (𝓤 : URA M) (H : Heap 𝓤) (A : Atoms 𝓤) (W : Given
 
 module _ {M : Type 1} (𝓤 : URA M) (H : Heap 𝓤) (A : Atoms 𝓤) (W : Given 𝓤 H A) (mem : Memory → SProp 𝓤)
     (run : Routine → Fun 𝓤) (𝓣 : Tables 𝓤 H)
-    (known-prepare : Triple 𝓤 (𝓣 .C #sweep·prepare) (Prepare 𝓤 H A mem run))
-    (known-allowed : Triple 𝓤 (𝓣 .C #sweep·allowed) (Allowed 𝓤 H A mem run))
+    (known-prepare : Triple 𝓤 (𝓣 .C #sweep-steps·prepare) (Prepare 𝓤 H A mem run))
+    (known-allowed : Triple 𝓤 (𝓣 .C #sweep-steps·allowed) (Allowed 𝓤 H A mem run))
     (known-sweep-rows : Triple 𝓤 (𝓣 .C #sweep·sweep-rows) (SweepRows 𝓤 H A mem run))
-    (known-lesser : Triple 𝓤 (𝓣 .C #sweep·lesser) (Lesser 𝓤 H A mem run))
+    (known-lesser : Triple 𝓤 (𝓣 .C #sweep-steps·lesser) (Lesser 𝓤 H A mem run))
     (known-fetch : Triple 𝓤 (𝓣 .C #sweep·fetch) (Fetch 𝓤 H A mem run))
-    (known-conclude : Triple 𝓤 (𝓣 .C #sweep·conclude) (Conclude 𝓤 H A mem run)) where
+    (known-conclude : Triple 𝓤 (𝓣 .C #sweep-steps·conclude) (Conclude 𝓤 H A mem run)) where
   sweep-walks : Walks 𝓤 H A the-sweep.ended stayed (WpFn 𝓤 H (𝓣 .C) (𝓣 .Λ) code.function)
       (the-sweep.clauses 𝓤 H A mem run)
   sweep-walks = walked 𝓤 H A the-sweep.ended stayed (the-sweep.clauses 𝓤 H A mem run)
@@ -694,16 +694,16 @@ sweep-spec 𝓤 H 𝓜 𝓖 𝓡 =
     (tables 𝓤 H 𝓜 𝓡 code.env .C) (tables 𝓤 H 𝓜 𝓡 code.env .Λ) #sweep·sweep code.function (code.unfolded 𝓤 H 𝓜 𝓡)
     (sweep-meets 𝓤 H (𝓖 .A) (givenOf 𝓤 H 𝓜 𝓖) (𝓜 .mem) (𝓡 .run) (tablesOf 𝓤 H 𝓜 (tables 𝓤 H 𝓜 𝓡 code.env))
     (cited 𝓤 H (Prepare 𝓤 H (𝓖 .A) (𝓜 .mem)
-    (𝓡 .run)) 𝓜 𝓡 code.env #sweep·prepare prepare-def.routine code.calls-sweep·prepare (prepare-thm.met 𝓤 H 𝓜 𝓖 𝓡))
+    (𝓡 .run)) 𝓜 𝓡 code.env #sweep-steps·prepare prepare-def.routine code.calls-sweep-steps·prepare (prepare-thm.met 𝓤 H 𝓜 𝓖 𝓡))
     (cited 𝓤 H (Allowed 𝓤 H (𝓖 .A) (𝓜 .mem)
-    (𝓡 .run)) 𝓜 𝓡 code.env #sweep·allowed allowed-def.routine code.calls-sweep·allowed (allowed-thm.met 𝓤 H 𝓜 𝓖 𝓡))
+    (𝓡 .run)) 𝓜 𝓡 code.env #sweep-steps·allowed allowed-def.routine code.calls-sweep-steps·allowed (allowed-thm.met 𝓤 H 𝓜 𝓖 𝓡))
     (cited 𝓤 H (SweepRows 𝓤 H (𝓖 .A) (𝓜 .mem)
     (𝓡 .run)) 𝓜 𝓡 code.env #sweep·sweep-rows sweep-rows-def.routine code.calls-sweep·sweep-rows
     (sweep-rows-thm.met 𝓤 H 𝓜 𝓖 𝓡))
     (cited 𝓤 H (Lesser 𝓤 H (𝓖 .A) (𝓜 .mem)
-    (𝓡 .run)) 𝓜 𝓡 code.env #sweep·lesser lesser-def.routine code.calls-sweep·lesser (lesser-thm.met 𝓤 H 𝓜 𝓖 𝓡))
+    (𝓡 .run)) 𝓜 𝓡 code.env #sweep-steps·lesser lesser-def.routine code.calls-sweep-steps·lesser (lesser-thm.met 𝓤 H 𝓜 𝓖 𝓡))
     (cited 𝓤 H (Fetch 𝓤 H (𝓖 .A) (𝓜 .mem) (𝓡 .run)) 𝓜 𝓡 code.env #sweep·fetch fetch-def.routine code.calls-sweep·fetch
     (fetch-thm.met 𝓤 H 𝓜 𝓖 𝓡))
     (cited 𝓤 H (Conclude 𝓤 H (𝓖 .A) (𝓜 .mem)
-    (𝓡 .run)) 𝓜 𝓡 code.env #sweep·conclude conclude-def.routine code.calls-sweep·conclude
+    (𝓡 .run)) 𝓜 𝓡 code.env #sweep-steps·conclude conclude-def.routine code.calls-sweep-steps·conclude
     (conclude-thm.met 𝓤 H 𝓜 𝓖 𝓡)))

@@ -49,32 +49,32 @@ use denote.Signature.{plain}
 use Rattle.rows.specs.Rows.{Ready, tailsBy, leftFrom}
 use Rattle.rows.specs.Begun.{begunWith}
 use Rattle.rows.specs.declared.Entry.{Entry}
-use Rattle.sweep.specs.declared.Drive.{Drive}
-use Rattle.sweep.specs.declared.Sources.{Sources}
-use Rattle.sweep.specs.declared.Built.{Built}
-use Rattle.sweep.specs.Table.{fetched, fetched-length, stored}
-use Rattle.sweep.specs.Turn.{sourcesOf, tailsIn, BuiltAs, TurnReady, turnedBy, jump-asked, fall-asked, make-asked, store-asked, turn-made, same-words}
+use Rattle.sweep_steps.specs.declared.Drive.{Drive}
+use Rattle.sweep_steps.specs.declared.Sources.{Sources}
+use Rattle.sweep_steps.specs.declared.Built.{Built}
+use Rattle.sweep_steps.specs.Table.{fetched, fetched-length, stored}
+use Rattle.sweep_steps.specs.Turn.{sourcesOf, tailsIn, BuiltAs, TurnReady, turnedBy, jump-asked, fall-asked, make-asked, store-asked, turn-made, same-words}
 use Rattle.sweep.proofs.Lent.{arrayTy, repeated-length, repeated-typed, repeated-out, array-in, words-at, words-val, words-lent, lends-words, words-back}
 use Rattle.sweep.proofs.Again.{LentAgain, lends-again, comes-back}
 use Rattle.rows.proofs.Entry as T
-use Rattle.sweep.proofs.Drive as D
-use Rattle.sweep.proofs.Drive.Laws as D′
-use Rattle.sweep.proofs.Sources as S
-use Rattle.sweep.proofs.Sources.Laws as S′
-use Rattle.sweep.proofs.Built as B
-use Rattle.sweep.proofs.Built.Laws as B′
-use Rattle.sweep.proofs.sources_of as sources-of
-use Rattle.sweep.proofs.sources_of.Symbol as sources-of-def
-use Rattle.sweep.proofs.sources_of.Symbol.{name as #sweep·sources-of}
-use Rattle.sweep.proofs.sources_of.Met as sources-of-thm
+use Rattle.sweep_steps.proofs.Drive as D
+use Rattle.sweep_steps.proofs.Drive.Laws as D′
+use Rattle.sweep_steps.proofs.Sources as S
+use Rattle.sweep_steps.proofs.Sources.Laws as S′
+use Rattle.sweep_steps.proofs.Built as B
+use Rattle.sweep_steps.proofs.Built.Laws as B′
+use Rattle.sweep_steps.proofs.sources_of as sources-of
+use Rattle.sweep_steps.proofs.sources_of.Symbol as sources-of-def
+use Rattle.sweep_steps.proofs.sources_of.Symbol.{name as #sweep-steps·sources-of}
+use Rattle.sweep_steps.proofs.sources_of.Met as sources-of-thm
 use Rattle.sweep.proofs.fetch as the-fetch
 use Rattle.sweep.proofs.fetch.Symbol as fetch-def
 use Rattle.sweep.proofs.fetch.Symbol.{name as #sweep·fetch}
 use Rattle.sweep.proofs.fetch.Met as fetch-thm
-use Rattle.sweep.proofs.make as the-make
-use Rattle.sweep.proofs.make.Symbol as make-def
-use Rattle.sweep.proofs.make.Symbol.{name as #sweep·make}
-use Rattle.sweep.proofs.make.Met as make-thm
+use Rattle.sweep_steps.proofs.make as the-make
+use Rattle.sweep_steps.proofs.make.Symbol as make-def
+use Rattle.sweep_steps.proofs.make.Symbol.{name as #sweep-steps·make}
+use Rattle.sweep_steps.proofs.make.Met as make-thm
 use Rattle.sweep.proofs.store as the-store
 use Rattle.sweep.proofs.store.Symbol as store-def
 use Rattle.sweep.proofs.store.Symbol.{name as #sweep·store}
@@ -370,9 +370,9 @@ module _ {M : Type 1} (𝓤 : URA M) (H : Heap 𝓤) (A : Atoms 𝓤) (W : Given
       fjoin ! $ owned ! usize (Is usize) (uint-makes 𝓤 H A W w64) n _ (refl, n-fits) $ move ! (1 ∷ 0 ∷ []) $ done !
 
   module _ (C : Calls 𝓤 H) (Λ : Loops 𝓤 H) (fm : FmC 𝓤 H (W .laws) C)
-      (known-sources : Triple 𝓤 (C #sweep·sources-of) (SourcesOf 𝓤 H A mem run))
+      (known-sources : Triple 𝓤 (C #sweep-steps·sources-of) (SourcesOf 𝓤 H A mem run))
       (known-fetch : Triple 𝓤 (C #sweep·fetch) (Fetch 𝓤 H A mem run))
-      (known-make : Triple 𝓤 (C #sweep·make) (Make 𝓤 H A mem run))
+      (known-make : Triple 𝓤 (C #sweep-steps·make) (Make 𝓤 H A mem run))
       (known-store : Triple 𝓤 (C #sweep·store) (Store 𝓤 H A mem run)) where
     -- _0 the row's length; plan, count, at, table; _5 the sources, _6 and _7 the rows that are read, _8 what is made,
     -- _9 a number; a pointer and a slice each: _10, _11 the table, _12, _13 the first row, _14, _15 the
@@ -643,9 +643,9 @@ module _ {M : Type 1} (𝓤 : URA M) (H : Heap 𝓤) (A : Atoms 𝓤) (W : Given
 
 module _ {M : Type 1} (𝓤 : URA M) (H : Heap 𝓤) (A : Atoms 𝓤) (W : Given 𝓤 H A) (mem : Memory → SProp 𝓤)
     (run : Routine → Fun 𝓤) (𝓣 : Tables 𝓤 H)
-    (known-sources : Triple 𝓤 (𝓣 .C #sweep·sources-of) (SourcesOf 𝓤 H A mem run))
+    (known-sources : Triple 𝓤 (𝓣 .C #sweep-steps·sources-of) (SourcesOf 𝓤 H A mem run))
     (known-fetch : Triple 𝓤 (𝓣 .C #sweep·fetch) (Fetch 𝓤 H A mem run))
-    (known-make : Triple 𝓤 (𝓣 .C #sweep·make) (Make 𝓤 H A mem run))
+    (known-make : Triple 𝓤 (𝓣 .C #sweep-steps·make) (Make 𝓤 H A mem run))
     (known-store : Triple 𝓤 (𝓣 .C #sweep·store) (Store 𝓤 H A mem run)) where
   block-walks : Walks 𝓤 H A the-block.ended stayed (WpFn 𝓤 H (𝓣 .C) (𝓣 .Λ) code.function)
       (the-block.clauses 𝓤 H A mem run)
@@ -688,11 +688,11 @@ sweep-block-spec 𝓤 H 𝓜 𝓖 𝓡 =
     (tables 𝓤 H 𝓜 𝓡 code.env .C) (tables 𝓤 H 𝓜 𝓡 code.env .Λ) #sweep·sweep-block code.function (code.unfolded 𝓤 H 𝓜 𝓡)
     (block-meets 𝓤 H (𝓖 .A) (givenOf 𝓤 H 𝓜 𝓖) (𝓜 .mem) (𝓡 .run) (tablesOf 𝓤 H 𝓜 (tables 𝓤 H 𝓜 𝓡 code.env))
     (cited 𝓤 H (SourcesOf 𝓤 H (𝓖 .A) (𝓜 .mem)
-    (𝓡 .run)) 𝓜 𝓡 code.env #sweep·sources-of sources-of-def.routine code.calls-sweep·sources-of
+    (𝓡 .run)) 𝓜 𝓡 code.env #sweep-steps·sources-of sources-of-def.routine code.calls-sweep-steps·sources-of
     (sources-of-thm.met 𝓤 H 𝓜 𝓖 𝓡))
     (cited 𝓤 H (Fetch 𝓤 H (𝓖 .A) (𝓜 .mem) (𝓡 .run)) 𝓜 𝓡 code.env #sweep·fetch fetch-def.routine code.calls-sweep·fetch
     (fetch-thm.met 𝓤 H 𝓜 𝓖 𝓡))
-    (cited 𝓤 H (Make 𝓤 H (𝓖 .A) (𝓜 .mem) (𝓡 .run)) 𝓜 𝓡 code.env #sweep·make make-def.routine code.calls-sweep·make
+    (cited 𝓤 H (Make 𝓤 H (𝓖 .A) (𝓜 .mem) (𝓡 .run)) 𝓜 𝓡 code.env #sweep-steps·make make-def.routine code.calls-sweep-steps·make
     (make-thm.met 𝓤 H 𝓜 𝓖 𝓡))
     (cited 𝓤 H (Store 𝓤 H (𝓖 .A) (𝓜 .mem) (𝓡 .run)) 𝓜 𝓡 code.env #sweep·store store-def.routine code.calls-sweep·store
     (store-thm.met 𝓤 H 𝓜 𝓖 𝓡)))

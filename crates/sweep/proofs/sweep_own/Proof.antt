@@ -45,11 +45,11 @@ use denote.Triple.Table.{entered, cited}
 use denote.Triple.Walked.{says, Stays, stay-none-slice, gave-slice, walkOf, goes-none-slice, goes-gave-slice, Walks, ends-at, walked, walk-meets}
 use denote.Exit.{yes}
 use denote.Signature.{plain}
-use Rattle.sweep.specs.declared.SweepAnswer.{SweepAnswer}
-use Rattle.sweep.proofs.SweepAnswer as S
-use Rattle.sweep.proofs.SweepAnswer.Laws as S′
+use Rattle.sweep_steps.specs.declared.SweepAnswer.{SweepAnswer}
+use Rattle.sweep_steps.proofs.SweepAnswer as S
+use Rattle.sweep_steps.proofs.SweepAnswer.Laws as S′
 use Rattle.rows.specs.declared.Entry.{Entry}
-use Rattle.sweep.specs.Answer.{noEntry, outcomeOf, SweepOwed}
+use Rattle.sweep_steps.specs.Answer.{noEntry, outcomeOf, SweepOwed}
 use Rattle.sweep.proofs.Lent.{big-lit, arrayTy, repeated-length, repeated-typed, repeated-out, array-in}
 use Rattle.rows.proofs.Entry as T
 use Rattle.rows.proofs.Entry.Laws as T′
@@ -57,10 +57,10 @@ use Rattle.sweep.proofs.sweep as the-sweep
 use Rattle.sweep.proofs.sweep.Symbol as sweep-def
 use Rattle.sweep.proofs.sweep.Symbol.{name as #sweep·sweep}
 use Rattle.sweep.proofs.sweep.Met as sweep-thm
-use Rattle.sweep.proofs.no_entry as the-none
-use Rattle.sweep.proofs.no_entry.Symbol as no-entry-def
-use Rattle.sweep.proofs.no_entry.Symbol.{name as #sweep·no-entry}
-use Rattle.sweep.proofs.no_entry.Met as no-entry-thm
+use Rattle.sweep_steps.proofs.no_entry as the-none
+use Rattle.sweep_steps.proofs.no_entry.Symbol as no-entry-def
+use Rattle.sweep_steps.proofs.no_entry.Symbol.{name as #sweep-steps·no-entry}
+use Rattle.sweep_steps.proofs.no_entry.Met as no-entry-thm
 use Rattle.sweep.proofs.sweep_own.Key.{name as #sweep·sweep-own}
 use Rattle.sweep.proofs.sweep_own as own
 use Rattle.sweep.proofs.sweep_own.Statement as stated
@@ -186,7 +186,7 @@ module _ {M : Type 1} (𝓤 : URA M) (H : Heap 𝓤) (A : Atoms 𝓤) (W : Given
       (2 ∷ 0 ∷ []) $ fjoin ! $ move ! (1 ∷ 0 ∷ []) $ fjoin ! $ done !
 
   module _ (C : Calls 𝓤 H) (Λ : Loops 𝓤 H) (fm : FmC 𝓤 H (W .laws) C)
-      (known-none : Triple 𝓤 (C #sweep·no-entry) (NoEntry 𝓤 H A mem run))
+      (known-none : Triple 𝓤 (C #sweep-steps·no-entry) (NoEntry 𝓤 H A mem run))
       (known-sweep : Triple 𝓤 (C #sweep·sweep) (Sweep 𝓤 H A mem run)) where
     -- _0 the answer; form, route; _3 the zero entry; _4 the table; a pointer and a slice each: _5, _6 the table, _7, _8
     -- the route
@@ -281,7 +281,7 @@ module _ {M : Type 1} (𝓤 : URA M) (H : Heap 𝓤) (A : Atoms 𝓤) (W : Given
 
 module _ {M : Type 1} (𝓤 : URA M) (H : Heap 𝓤) (A : Atoms 𝓤) (W : Given 𝓤 H A) (mem : Memory → SProp 𝓤)
     (run : Routine → Fun 𝓤) where
-  sweep-own-walks : (C : Calls 𝓤 H) (Λ : Loops 𝓤 H) → FmC 𝓤 H (W .laws) C → Triple 𝓤 (C #sweep·no-entry)
+  sweep-own-walks : (C : Calls 𝓤 H) (Λ : Loops 𝓤 H) → FmC 𝓤 H (W .laws) C → Triple 𝓤 (C #sweep-steps·no-entry)
       (NoEntry 𝓤 H A mem run) → Triple 𝓤 (C #sweep·sweep) (Sweep 𝓤 H A mem run) → Walks 𝓤 H A own.ended stayed
       (WpFn 𝓤 H C Λ code.function) (own.clauses 𝓤 H A mem run)
   sweep-own-walks C Λ fm known-none known-sweep = walked 𝓤 H A own.ended stayed (own.clauses 𝓤 H A mem run)
@@ -296,7 +296,7 @@ module _ {M : Type 1} (𝓤 : URA M) (H : Heap 𝓤) (A : Atoms 𝓤) (W : Given
       (are .0 .0 .1) (are .1 .0 .0 .1) C Λ fm known-none known-sweep))
 
 sweep-own-meets : {M : Type 1} (𝓤 : URA M) (H : Heap 𝓤) (A : Atoms 𝓤) → Given 𝓤 H A → (mem : Memory → SProp 𝓤)
-    (run : Routine → Fun 𝓤) (𝓣 : Tables 𝓤 H) → Triple 𝓤 (𝓣 .C #sweep·no-entry) (NoEntry 𝓤 H A mem run)
+    (run : Routine → Fun 𝓤) (𝓣 : Tables 𝓤 H) → Triple 𝓤 (𝓣 .C #sweep-steps·no-entry) (NoEntry 𝓤 H A mem run)
     → Triple 𝓤 (𝓣 .C #sweep·sweep) (Sweep 𝓤 H A mem run)
     → Meets 𝓤 H A own.signature (WpFn 𝓤 H (𝓣 .C) (𝓣 .Λ) code.function) (own.spec 𝓤 H A mem run)
 sweep-own-meets 𝓤 H A W mem run 𝓣 known-none known-sweep =
@@ -314,7 +314,7 @@ sweep-own-spec 𝓤 H 𝓜 𝓖 𝓡 =
     (tables 𝓤 H 𝓜 𝓡 code.env .C) (tables 𝓤 H 𝓜 𝓡 code.env .Λ) #sweep·sweep-own code.function (code.unfolded 𝓤 H 𝓜 𝓡)
     (sweep-own-meets 𝓤 H (𝓖 .A) (givenOf 𝓤 H 𝓜 𝓖) (𝓜 .mem) (𝓡 .run) (tablesOf 𝓤 H 𝓜 (tables 𝓤 H 𝓜 𝓡 code.env))
     (cited 𝓤 H (NoEntry 𝓤 H (𝓖 .A) (𝓜 .mem)
-    (𝓡 .run)) 𝓜 𝓡 code.env #sweep·no-entry no-entry-def.routine code.calls-sweep·no-entry
+    (𝓡 .run)) 𝓜 𝓡 code.env #sweep-steps·no-entry no-entry-def.routine code.calls-sweep-steps·no-entry
     (no-entry-thm.met 𝓤 H 𝓜 𝓖 𝓡))
     (cited 𝓤 H (Sweep 𝓤 H (𝓖 .A) (𝓜 .mem) (𝓡 .run)) 𝓜 𝓡 code.env #sweep·sweep sweep-def.routine code.calls-sweep·sweep
     (sweep-thm.met 𝓤 H 𝓜 𝓖 𝓡)))

@@ -49,34 +49,34 @@ use denote.Signature.{plain}
 use Rattle.form.specs.declared.Body.{Body}
 use Rattle.form.specs.Conflict.{Sound}
 use Rattle.theory.specs.Plan.{Planned, PlanOf}
-use Rattle.sweep.specs.Drive.{SweptAs}
-use Rattle.sweep.specs.declared.Swept.{Swept}
-use Rattle.sweep.proofs.Swept as E
-use Rattle.sweep.proofs.Swept.Laws as E′
+use Rattle.sweep_steps.specs.Drive.{SweptAs}
+use Rattle.sweep_steps.specs.declared.Swept.{Swept}
+use Rattle.sweep_steps.proofs.Swept as E
+use Rattle.sweep_steps.proofs.Swept.Laws as E′
 use Rattle.rows.specs.declared.Entry.{Entry}
-use Rattle.sweep.specs.declared.Drive.{Drive}
-use Rattle.sweep.specs.Turn.{TurnReady, turnedBy}
-use Rattle.sweep.specs.Driven.{started, following, finished, left, Driven, driven-start, turn-ready, lengths-size, driven-more, left-less}
+use Rattle.sweep_steps.specs.declared.Drive.{Drive}
+use Rattle.sweep_steps.specs.Turn.{TurnReady, turnedBy}
+use Rattle.sweep_steps.specs.Driven.{started, following, finished, left, Driven, driven-start, turn-ready, lengths-size, driven-more, left-less}
 use Rattle.sweep.proofs.Again.{LentAgain, lends-again, comes-back}
 use Rattle.rows.proofs.Entry as T
-use Rattle.sweep.proofs.Drive as D
-use Rattle.sweep.proofs.Drive.Laws as D′
-use Rattle.sweep.proofs.start as the-start
-use Rattle.sweep.proofs.start.Symbol as start-def
-use Rattle.sweep.proofs.start.Symbol.{name as #sweep·start}
-use Rattle.sweep.proofs.start.Met as start-thm
+use Rattle.sweep_steps.proofs.Drive as D
+use Rattle.sweep_steps.proofs.Drive.Laws as D′
+use Rattle.sweep_steps.proofs.start as the-start
+use Rattle.sweep_steps.proofs.start.Symbol as start-def
+use Rattle.sweep_steps.proofs.start.Symbol.{name as #sweep-steps·start}
+use Rattle.sweep_steps.proofs.start.Met as start-thm
 use Rattle.sweep.proofs.sweep_block as the-block
 use Rattle.sweep.proofs.sweep_block.Symbol as block-def
 use Rattle.sweep.proofs.sweep_block.Symbol.{name as #sweep·sweep-block}
 use Rattle.sweep.proofs.sweep_block.Met as block-thm
-use Rattle.sweep.proofs.following_of as the-following
-use Rattle.sweep.proofs.following_of.Symbol as following-def
-use Rattle.sweep.proofs.following_of.Symbol.{name as #sweep·following-of}
-use Rattle.sweep.proofs.following_of.Met as following-thm
-use Rattle.sweep.proofs.finish as the-finish
-use Rattle.sweep.proofs.finish.Symbol as finish-def
-use Rattle.sweep.proofs.finish.Symbol.{name as #sweep·finish}
-use Rattle.sweep.proofs.finish.Met as finish-thm
+use Rattle.sweep_steps.proofs.following_of as the-following
+use Rattle.sweep_steps.proofs.following_of.Symbol as following-def
+use Rattle.sweep_steps.proofs.following_of.Symbol.{name as #sweep-steps·following-of}
+use Rattle.sweep_steps.proofs.following_of.Met as following-thm
+use Rattle.sweep_steps.proofs.finish as the-finish
+use Rattle.sweep_steps.proofs.finish.Symbol as finish-def
+use Rattle.sweep_steps.proofs.finish.Symbol.{name as #sweep-steps·finish}
+use Rattle.sweep_steps.proofs.finish.Met as finish-thm
 use Rattle.sweep.proofs.sweep_rows.Key.{name as #sweep·sweep-rows}
 use Rattle.sweep.proofs.sweep_rows as the-rows
 use Rattle.sweep.proofs.sweep_rows.Statement as stated
@@ -272,10 +272,10 @@ module _ {M : Type 1} (𝓤 : URA M) (H : Heap 𝓤) (A : Atoms 𝓤) (W : Given
       (refl, count-fits) $ fjoin ! $ move ! (1 ∷ 0 ∷ []) $ fjoin ! $
       owned ! E.the-row (Is E.the-row) (EL.makes E.the-type E′.the-plain 𝓤 H A) r _ is $ move ! (1 ∷ 0 ∷ []) $ done !
 
-  module _ (𝓣 : Tables 𝓤 H) (known-start : Triple 𝓤 (𝓣 .C #sweep·start) (Start 𝓤 H A mem run))
+  module _ (𝓣 : Tables 𝓤 H) (known-start : Triple 𝓤 (𝓣 .C #sweep-steps·start) (Start 𝓤 H A mem run))
       (known-block : Triple 𝓤 (𝓣 .C #sweep·sweep-block) (Block 𝓤 H A mem run))
-      (known-following : Triple 𝓤 (𝓣 .C #sweep·following-of) (Following 𝓤 H A mem run))
-      (known-finish : Triple 𝓤 (𝓣 .C #sweep·finish) (Finish 𝓤 H A mem run)) where
+      (known-following : Triple 𝓤 (𝓣 .C #sweep-steps·following-of) (Following 𝓤 H A mem run))
+      (known-finish : Triple 𝓤 (𝓣 .C #sweep-steps·finish) (Finish 𝓤 H A mem run)) where
     abbrev C : Calls 𝓤 H
     C = 𝓣 .C
 
@@ -519,10 +519,10 @@ module _ {M : Type 1} (𝓤 : URA M) (H : Heap 𝓤) (A : Atoms 𝓤) (W : Given
 
 module _ {M : Type 1} (𝓤 : URA M) (H : Heap 𝓤) (A : Atoms 𝓤) (W : Given 𝓤 H A) (mem : Memory → SProp 𝓤)
     (run : Routine → Fun 𝓤) (𝓣 : Tables 𝓤 H)
-    (known-start : Triple 𝓤 (𝓣 .C #sweep·start) (Start 𝓤 H A mem run))
+    (known-start : Triple 𝓤 (𝓣 .C #sweep-steps·start) (Start 𝓤 H A mem run))
     (known-block : Triple 𝓤 (𝓣 .C #sweep·sweep-block) (Block 𝓤 H A mem run))
-    (known-following : Triple 𝓤 (𝓣 .C #sweep·following-of) (Following 𝓤 H A mem run))
-    (known-finish : Triple 𝓤 (𝓣 .C #sweep·finish) (Finish 𝓤 H A mem run)) where
+    (known-following : Triple 𝓤 (𝓣 .C #sweep-steps·following-of) (Following 𝓤 H A mem run))
+    (known-finish : Triple 𝓤 (𝓣 .C #sweep-steps·finish) (Finish 𝓤 H A mem run)) where
   rows-walks : Walks 𝓤 H A the-rows.ended stayed (WpFn 𝓤 H (𝓣 .C) (𝓣 .Λ) code.function) (the-rows.clauses 𝓤 H A mem run)
   rows-walks = walked 𝓤 H A the-rows.ended stayed (the-rows.clauses 𝓤 H A mem run)
       (WpFn 𝓤 H (𝓣 .C) (𝓣 .Λ) code.function)
@@ -556,13 +556,13 @@ sweep-rows-spec 𝓤 H 𝓜 𝓖 𝓡 =
     entered 𝓤 H (tripleOf 𝓤 H (𝓖 .A) the-rows.signature (the-rows.spec 𝓤 H (𝓖 .A) (𝓜 .mem) (𝓡 .run)))
     (tables 𝓤 H 𝓜 𝓡 code.env .C) (tables 𝓤 H 𝓜 𝓡 code.env .Λ) #sweep·sweep-rows code.function (code.unfolded 𝓤 H 𝓜 𝓡)
     (rows-meets 𝓤 H (𝓖 .A) (givenOf 𝓤 H 𝓜 𝓖) (𝓜 .mem) (𝓡 .run) (tablesOf 𝓤 H 𝓜 (tables 𝓤 H 𝓜 𝓡 code.env))
-    (cited 𝓤 H (Start 𝓤 H (𝓖 .A) (𝓜 .mem) (𝓡 .run)) 𝓜 𝓡 code.env #sweep·start start-def.routine code.calls-sweep·start
+    (cited 𝓤 H (Start 𝓤 H (𝓖 .A) (𝓜 .mem) (𝓡 .run)) 𝓜 𝓡 code.env #sweep-steps·start start-def.routine code.calls-sweep-steps·start
     (start-thm.met 𝓤 H 𝓜 𝓖 𝓡))
     (cited 𝓤 H (Block 𝓤 H (𝓖 .A) (𝓜 .mem)
     (𝓡 .run)) 𝓜 𝓡 code.env #sweep·sweep-block block-def.routine code.calls-sweep·sweep-block
     (block-thm.met 𝓤 H 𝓜 𝓖 𝓡))
     (cited 𝓤 H (Following 𝓤 H (𝓖 .A) (𝓜 .mem)
-    (𝓡 .run)) 𝓜 𝓡 code.env #sweep·following-of following-def.routine code.calls-sweep·following-of
+    (𝓡 .run)) 𝓜 𝓡 code.env #sweep-steps·following-of following-def.routine code.calls-sweep-steps·following-of
     (following-thm.met 𝓤 H 𝓜 𝓖 𝓡))
     (cited 𝓤 H (Finish 𝓤 H (𝓖 .A) (𝓜 .mem)
-    (𝓡 .run)) 𝓜 𝓡 code.env #sweep·finish finish-def.routine code.calls-sweep·finish (finish-thm.met 𝓤 H 𝓜 𝓖 𝓡)))
+    (𝓡 .run)) 𝓜 𝓡 code.env #sweep-steps·finish finish-def.routine code.calls-sweep-steps·finish (finish-thm.met 𝓤 H 𝓜 𝓖 𝓡)))

@@ -2,8 +2,8 @@
 use Prim.Native.Nat.{_*_}
 use borrow.Author.Tests.{lt-ltb, le-ltb}
 use borrow.Author.Needs.{needs}
-use Rattle.sweep.proofs.allowed.Statement.{statement}
-use Rattle.sweep.proofs.allowed.Tie as tie
+use Rattle.sweep_steps.proofs.allowed.Statement.{statement}
+use Rattle.sweep_steps.proofs.allowed.Tie as tie
 
 returns : tie.Need-returns
 returns c = let a = c .before .args in rw (lt-ltb (a .bytes) (a .count) (c .if1 .taken))

@@ -1,8 +1,8 @@
 -- `sweep::start` meets its contract.
 use lib.Dec.{ltb}
 use borrow.Author.Needs.{needs}
-use Rattle.sweep.proofs.start.Statement.{statement}
-use Rattle.sweep.proofs.start.Tie as tie
+use Rattle.sweep_steps.proofs.start.Statement.{statement}
+use Rattle.sweep_steps.proofs.start.Tie as tie
 
 returns : tie.Need-returns
 returns c =

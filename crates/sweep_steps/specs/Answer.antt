@@ -16,8 +16,8 @@ use Rattle.theory.specs.Row as theory
 use Rattle.theory.specs.Row.{row, filled, kept, crowded}
 use Rattle.plan.specs.Owed.{Owed}
 use Rattle.rows.specs.declared.Entry.{Entry}
-use Rattle.sweep.specs.declared.SweepAnswer.{SweepAnswer}
-use Rattle.sweep.specs.declared.SweepAnswer.the-variants.{Routed, Refused}
+use Rattle.sweep_steps.specs.declared.SweepAnswer.{SweepAnswer}
+use Rattle.sweep_steps.specs.declared.SweepAnswer.the-variants.{Routed, Refused}
 
 -- ---- an answer in document 01's numbers: number 0 is no refusal; of a refusal every other number but the place is
 -- zero

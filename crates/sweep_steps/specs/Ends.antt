@@ -32,15 +32,15 @@ use Rattle.rows.specs.declared.Entry.{Entry}
 use Rattle.rows.specs.Entries.{entryAt}
 use Rattle.rows.specs.Structs.{tupleOf, structAt, structOf}
 use Rattle.rows.specs.Begun.{zeroRow, zero-at}
-use Rattle.sweep.specs.declared.Swept.{Swept}
-use Rattle.sweep.specs.declared.Swept.the-variants.{Crowded, Rows}
-use Rattle.sweep.specs.declared.SweepAnswer.{SweepAnswer}
-use Rattle.sweep.specs.declared.SweepAnswer.the-variants.{Routed, Refused}
-use Rattle.sweep.specs.Answer as Answer
-use Rattle.sweep.specs.Answer.{noEntry, Outcome, outcomeOf, refused, tableWith, rowsOn, routed, swept, sweepOutcome, SweepOwed}
-use Rattle.sweep.specs.Table.{entriesIn, in-length, in-mem, rowFetched, fetched-none, row-fetched-at}
-use Rattle.sweep.specs.Turn.{rowOf}
-use Rattle.sweep.specs.Drive.{heaviestBy, longestRow, highestCrowd, sweptOf, completeFrom, SweptAs, weight-few}
+use Rattle.sweep_steps.specs.declared.Swept.{Swept}
+use Rattle.sweep_steps.specs.declared.Swept.the-variants.{Crowded, Rows}
+use Rattle.sweep_steps.specs.declared.SweepAnswer.{SweepAnswer}
+use Rattle.sweep_steps.specs.declared.SweepAnswer.the-variants.{Routed, Refused}
+use Rattle.sweep_steps.specs.Answer as Answer
+use Rattle.sweep_steps.specs.Answer.{noEntry, Outcome, outcomeOf, refused, tableWith, rowsOn, routed, swept, sweepOutcome, SweepOwed}
+use Rattle.sweep_steps.specs.Table.{entriesIn, in-length, in-mem, rowFetched, fetched-none, row-fetched-at}
+use Rattle.sweep_steps.specs.Turn.{rowOf}
+use Rattle.sweep_steps.specs.Drive.{heaviestBy, longestRow, highestCrowd, sweptOf, completeFrom, SweptAs, weight-few}
 
 -- ---- what the functions that answer do
 

@@ -2,8 +2,8 @@
 use mathlib.Core.Path.{sym, ap}
 use mathlib.Core.Bool.{Bool, cond}
 use borrow.Author.Tests.{lt-ltb, le-ltb}
-use Rattle.sweep.proofs.whole_of.Statement.{statement}
-use Rattle.sweep.proofs.whole_of.Tie as tie
+use Rattle.sweep_steps.proofs.whole_of.Statement.{statement}
+use Rattle.sweep_steps.proofs.whole_of.Tie as tie
 
 returns : tie.Need-returns
 returns c = sym (ap (λ (t : Bool). cond t 64 0) (lt-ltb (c .before .args .held) 65 (c .if1 .taken)))

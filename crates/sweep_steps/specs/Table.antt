@@ -21,7 +21,7 @@ use Rattle.rows.specs.declared.Entry.{Entry}
 use Rattle.rows.specs.Entries.{entryAt, entriesFrom, entryPut, put-length, put-at, put-below, entry-alike, entries-append, entries-length}
 use Rattle.rows.specs.Structs.{tupleOf, structOf, structAt}
 use Rattle.rows.specs.Begun.{zeroRow, zero-length}
-use Rattle.sweep.specs.Answer.{entryFrom, noEntry, tableWith}
+use Rattle.sweep_steps.specs.Answer.{entryFrom, noEntry, tableWith}
 
 -- ---- entries of the table
 

@@ -2,10 +2,10 @@
 use mathlib.Core.Path.{ap, _∙_}
 use Prim.Native.Nat.{_-_}
 use lib.ListN.{getD}
-use Rattle.sweep.specs.Turn.{firstOf}
+use Rattle.sweep_steps.specs.Turn.{firstOf}
 use borrow.Author.Needs.{needs}
-use Rattle.sweep.proofs.sources_of.Statement.{statement}
-use Rattle.sweep.proofs.sources_of.Tie as tie
+use Rattle.sweep_steps.proofs.sources_of.Statement.{statement}
+use Rattle.sweep_steps.proofs.sources_of.Tie as tie
 
 returns : tie.Need-returns
 returns c =

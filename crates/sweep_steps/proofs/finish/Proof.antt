@@ -3,9 +3,9 @@ use mathlib.Core.Path.{sym, ap}
 use mathlib.Core.Bool.{Bool, cond}
 use Prim.Native.Nat.{_-_}
 use borrow.Author.Tests.{lt-ltb, le-ltb}
-use Rattle.sweep.specs.declared.Swept.the-variants.{Crowded, Rows}
-use Rattle.sweep.proofs.finish.Statement.{statement}
-use Rattle.sweep.proofs.finish.Tie as tie
+use Rattle.sweep_steps.specs.declared.Swept.the-variants.{Crowded, Rows}
+use Rattle.sweep_steps.proofs.finish.Statement.{statement}
+use Rattle.sweep_steps.proofs.finish.Tie as tie
 
 sub-t3 : tie.Need-sub-t3
 sub-t3 c = c .before .before .before .pre (c .before .if1 .taken)

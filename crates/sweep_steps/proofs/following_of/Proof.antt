@@ -1,8 +1,8 @@
 -- `sweep::following_of` meets its contract.
-use Rattle.sweep.specs.Driven.{following-over, following-more}
+use Rattle.sweep_steps.specs.Driven.{following-over, following-more}
 use borrow.Author.Needs.{needs}
-use Rattle.sweep.proofs.following_of.Statement.{statement}
-use Rattle.sweep.proofs.following_of.Tie as tie
+use Rattle.sweep_steps.proofs.following_of.Statement.{statement}
+use Rattle.sweep_steps.proofs.following_of.Tie as tie
 
 returns : tie.Need-returns
 returns c = let a = c .before .before .args in following-over (a .at) (a .found) (c .if1 .taken)

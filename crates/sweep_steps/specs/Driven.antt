@@ -10,13 +10,13 @@ use lib.ListN.{length, getD, set}
 use Rattle.laws.specs.Tests.{split, clash}
 use Rattle.form.specs.declared.Body.{Body}
 use Rattle.form.specs.Conflict.{Sound}
-use Rattle.sweep.specs.declared.Swept.{Swept}
-use Rattle.sweep.specs.declared.Swept.the-variants.{Crowded, Rows}
+use Rattle.sweep_steps.specs.declared.Swept.{Swept}
+use Rattle.sweep_steps.specs.declared.Swept.the-variants.{Crowded, Rows}
 use Rattle.theory.specs.Plan.{Planned, PlanOf}
-use Rattle.sweep.specs.Drive.{noLengths, SweptAs, Sweeping, sweeping-start, sweeping-light, sweeping-inside, sweeping-more, sweeping-crowded, sweeping-end}
+use Rattle.sweep_steps.specs.Drive.{noLengths, SweptAs, Sweeping, sweeping-start, sweeping-light, sweeping-inside, sweeping-more, sweeping-crowded, sweeping-end}
 use Rattle.rows.specs.declared.Entry.{Entry}
-use Rattle.sweep.specs.declared.Drive.{Drive}
-use Rattle.sweep.specs.Turn.{TurnReady, turnedBy}
+use Rattle.sweep_steps.specs.declared.Drive.{Drive}
+use Rattle.sweep_steps.specs.Turn.{TurnReady, turnedBy}
 
 abbrev pub started : ℕ → Drive
 started count = record { going = ltb 0 count; b = count; kept = 0; found = 0; lengths = noLengths }

@@ -2,10 +2,10 @@
 use native.Mathlib.Omega.{arith}
 use mathlib.Core.Path.{_≡_}
 use Prim.Native.Nat.{ℕ, _≤_}
-use Rattle.sweep.specs.Ends.{unstarted, few-bytes, few-entries, crowd, all-rows}
+use Rattle.sweep_steps.specs.Ends.{unstarted, few-bytes, few-entries, crowd, all-rows}
 use borrow.Author.Needs.{needs}
-use Rattle.sweep.proofs.conclude.Statement.{statement}
-use Rattle.sweep.proofs.conclude.Tie as tie
+use Rattle.sweep_steps.proofs.conclude.Statement.{statement}
+use Rattle.sweep_steps.proofs.conclude.Tie as tie
 
 zero : {n : ℕ} → n ≤ 0 → n ≡ 0
 zero h = omega arith

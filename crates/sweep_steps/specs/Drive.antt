@@ -27,11 +27,11 @@ use Rattle.rows.specs.declared.Entry.{Entry}
 use Rattle.rows.specs.Entries.{entries-length}
 use Rattle.rows.specs.Structs.{tupleOf, structAt}
 use Rattle.rows.specs.Begun.{Holds}
-use Rattle.sweep.specs.declared.Swept.{Swept}
-use Rattle.sweep.specs.declared.Swept.the-variants.{Crowded, Rows}
-use Rattle.sweep.specs.Answer.{entryFrom, noEntry, tableWith, rowsOn}
-use Rattle.sweep.specs.Table.{entriesIn, in-length, in-mem, in-alike, in-words, structsOf, structs-length, structs-at, row-laid, paste-in, paste-high, table-none, table-more}
-use Rattle.sweep.specs.Turn.{rowOf, range-of, entry-small, row-is, rowIn, rowFrom, Stored, Turned}
+use Rattle.sweep_steps.specs.declared.Swept.{Swept}
+use Rattle.sweep_steps.specs.declared.Swept.the-variants.{Crowded, Rows}
+use Rattle.sweep_steps.specs.Answer.{entryFrom, noEntry, tableWith, rowsOn}
+use Rattle.sweep_steps.specs.Table.{entriesIn, in-length, in-mem, in-alike, in-words, structsOf, structs-length, structs-at, row-laid, paste-in, paste-high, table-none, table-more}
+use Rattle.sweep_steps.specs.Turn.{rowOf, range-of, entry-small, row-is, rowIn, rowFrom, Stored, Turned}
 
 -- ---- the lengths
 

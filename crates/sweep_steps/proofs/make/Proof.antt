@@ -2,10 +2,10 @@
 use mathlib.Core.Path.{_∙_}
 use Rattle.rows.specs.Rows.{tailsBy}
 use Rattle.rows.specs.Begun.{begunWith}
-use Rattle.sweep.specs.Turn.{tailsIn, built-as}
+use Rattle.sweep_steps.specs.Turn.{tailsIn, built-as}
 use borrow.Author.Needs.{needs}
-use Rattle.sweep.proofs.make.Statement.{statement}
-use Rattle.sweep.proofs.make.Tie as tie
+use Rattle.sweep_steps.proofs.make.Statement.{statement}
+use Rattle.sweep_steps.proofs.make.Tie as tie
 
 returns : tie.Need-returns
 returns c =

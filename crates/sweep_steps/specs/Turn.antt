@@ -33,11 +33,11 @@ use Rattle.rows.specs.Entries.{entryAt, entriesFrom, betterOf, Grown, entries-l
 use Rattle.rows.specs.Steps.{sideOf, stepKey, stepWords, step-key, step-words}
 use Rattle.rows.specs.Rows.{tailsBy, pouredBy, leftFrom, left-grows, Ready}
 use Rattle.rows.specs.Begun.{Holds, begunWith, zeroRow, zero-length}
-use Rattle.sweep.specs.declared.Drive.{Drive}
-use Rattle.sweep.specs.declared.Sources.{Sources}
-use Rattle.sweep.specs.declared.Built.{Built}
-use Rattle.sweep.specs.Answer.{noEntry}
-use Rattle.sweep.specs.Table.{entriesIn, rowFetched, row-fetched-at, fetched-length, fetched-entries, stored, stored-is, structsOf}
+use Rattle.sweep_steps.specs.declared.Drive.{Drive}
+use Rattle.sweep_steps.specs.declared.Sources.{Sources}
+use Rattle.sweep_steps.specs.declared.Built.{Built}
+use Rattle.sweep_steps.specs.Answer.{noEntry}
+use Rattle.sweep_steps.specs.Table.{entriesIn, rowFetched, row-fetched-at, fetched-length, fetched-entries, stored, stored-is, structsOf}
 
 -- ---- pouring by steps that agree on the entries
 

@@ -4,8 +4,8 @@ use mathlib.Core.Bool.{Bool, cond}
 use Prim.Native.Nat.{_*_}
 use borrow.Author.Tests.{lt-ltb, le-ltb}
 use borrow.Author.Needs.{needs}
-use Rattle.sweep.proofs.first_of.Statement.{statement}
-use Rattle.sweep.proofs.first_of.Tie as tie
+use Rattle.sweep_steps.proofs.first_of.Statement.{statement}
+use Rattle.sweep_steps.proofs.first_of.Tie as tie
 
 returns : tie.Need-returns
 returns c = sym (ap (λ (u : Bool). cond u (64 * c .before .args .t) 0) (lt-ltb (c .before .args .t) 64 (c .if1 .taken)))

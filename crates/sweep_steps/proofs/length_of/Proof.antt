@@ -3,8 +3,8 @@ use mathlib.Core.Path.{sym}
 use native.Mathlib.Omega.{arith}
 use lib.ListN.{List·getD-eq-default}
 use borrow.Author.Needs.{needs}
-use Rattle.sweep.proofs.length_of.Statement.{statement}
-use Rattle.sweep.proofs.length_of.Tie as tie
+use Rattle.sweep_steps.proofs.length_of.Statement.{statement}
+use Rattle.sweep_steps.proofs.length_of.Tie as tie
 
 cast-result : tie.Need-cast-result
 cast-result c = omega (arith, c .shared-slice-known .given (c .before .before .args .t) .fits)

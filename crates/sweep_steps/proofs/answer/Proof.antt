@@ -6,10 +6,10 @@ use Rattle.theory.specs.Plan.{costLimit}
 use Rattle.plan.specs.Accepted.{product}
 use Rattle.rows.specs.declared.Entry.{Entry}
 use Rattle.rows.specs.Structs.{structAt}
-use Rattle.sweep.specs.Ends.{answerOf, answer-none, answer-some}
+use Rattle.sweep_steps.specs.Ends.{answerOf, answer-none, answer-some}
 use borrow.Author.Needs.{needs}
-use Rattle.sweep.proofs.answer.Statement.{statement}
-use Rattle.sweep.proofs.answer.Tie as tie
+use Rattle.sweep_steps.proofs.answer.Statement.{statement}
+use Rattle.sweep_steps.proofs.answer.Tie as tie
 
 positive : (n : ℕ) → (n ≡ 0 → ⊥) → 0 < n
 positive n d = omega arith
