@@ -112,7 +112,7 @@ pub extern "C" fn somniaret_count(initial: i32, step: i32, relation: u8, limit: 
 pub extern "C" fn somniaret_verdict(bytes: &[u8]) -> FormAnswer
     ensures { λ r. ⌜ r ≡ verdictAnswer (judge (now (bytes .entry))) ⌝ }
 {
-    of_verdict(reader::judge(bytes))
+    of_verdict(verdict::judge(bytes))
 }
 
 // A form read and its body written back: the bytes written as the place, or the reader's or the writer's refusal.
@@ -122,7 +122,7 @@ pub extern "C" fn somniaret_rewrite(bytes: &[u8], out: &mut [u8]) -> FormAnswer
 {
     let reading = reader::read(bytes);
     let verdict = reading.verdict;
-    if !reader::accepts(verdict) {
+    if !verdict::accepts(verdict) {
         return of_verdict(verdict);
     }
     let body = reading.body;

@@ -203,8 +203,8 @@ pub fn write(body: form::Body, out: &mut [u8]) -> form::Written
     }
     let mut buf = [0u8; 3665];
     let n = lay(&mut buf, body);
-    let verdict = reader::judge(&buf[..n]);
-    if !reader::accepts(verdict) {
+    let verdict = verdict::judge(&buf[..n]);
+    if !verdict::accepts(verdict) {
         return as_judged(verdict, form::Written::Bytes(0));
     }
     if out.len() < n {
