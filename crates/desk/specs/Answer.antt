@@ -9,7 +9,7 @@ use Rattle.form.specs.Form.{when, judge, bodyOf, lay}
 use Rattle.form.specs.Answer.{accepted, numberOf, placeOf, writtenNumber, writtenPlace, written, heldAfter}
 use Rattle.counter.specs.Answer as Counter
 use Rattle.walk.specs.Answer as Walk
-use Rattle.rows.specs.declared.Entry.{Entry}
+use Rattle.entries.specs.declared.Entry.{Entry}
 use Rattle.sweep_steps.specs.Answer as Sweep
 use Rattle.sweep_steps.specs.declared.SweepAnswer.{SweepAnswer}
 use Rattle.desk.specs.declared.CountAnswer.{CountAnswer}

@@ -9,7 +9,7 @@ use Rattle.form.specs.declared.Body.{Body}
 use Rattle.form.specs.Form.{bodyOf}
 use Rattle.theory.specs.Route.{Path, dearest, stepCost}
 use Rattle.theory.specs.Run.{Run, runCost}
-use Rattle.rows.specs.declared.Entry.{Entry}
+use Rattle.entries.specs.declared.Entry.{Entry}
 use Rattle.walk.specs.Answer.{WalkOwed}
 use Rattle.sweep_steps.specs.Answer.{SweepOwed, ownTable}
 use Rattle.ways.specs.Answered.{answered-sound, Agree, answered-agree}

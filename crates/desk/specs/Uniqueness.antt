@@ -15,7 +15,7 @@ use Rattle.listing.specs.Answer as Conflict
 use Rattle.theory.specs.Route.{dearest}
 use Rattle.plan.specs.Accepted as Routes
 use Rattle.walk.specs.Answer as Walk
-use Rattle.rows.specs.declared.Entry.{Entry}
+use Rattle.entries.specs.declared.Entry.{Entry}
 use Rattle.sweep_steps.specs.Answer as Sweep
 use Rattle.desk.specs.declared.CountAnswer.{CountAnswer}
 use Rattle.desk.specs.declared.FormAnswer.{FormAnswer}

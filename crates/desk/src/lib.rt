@@ -15,7 +15,7 @@ use counter::Counted;
 use form::Verdict;
 use form::Written;
 use listing::Listed;
-use rows::Entry;
+use entries::Entry;
 use sweep_steps::SweepAnswer;
 use walk::WalkAnswer;
 

@@ -25,7 +25,7 @@ use Rattle.sweep_steps.specs.Answer as sweep
 use Rattle.walk.specs.declared.WalkAnswer.{WalkAnswer}
 use Rattle.walk.specs.declared.WalkAnswer.the-variants.{Walked, Refused}
 use Rattle.walk.specs.Answer as walk
-use Rattle.rows.specs.declared.Entry.{Entry}
+use Rattle.entries.specs.declared.Entry.{Entry}
 use Rattle.ways.specs.Answered.{Answered, answered-sound, answered-agree}
 use Rattle.ways.specs.Walk.{walk-answered, one-walk}
 use Rattle.ways.specs.Sweep.{own-answered, one-own}

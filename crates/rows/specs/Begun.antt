@@ -13,7 +13,7 @@ use Rattle.theory.specs.Row.{Key}
 use Rattle.theory.specs.Edges.{noEdges}
 use Rattle.theory.specs.SweepWords.{Words}
 use Rattle.theory.specs.Plan.{costAt}
-use Rattle.rows.specs.Entries.{entriesFrom, entryPut, put-length, put-at, put-above}
+use Rattle.entries.specs.Entries.{entriesFrom, entryPut, put-length, put-at, put-above}
 
 -- an empty row
 abbrev pub zeroRow : List ℕ

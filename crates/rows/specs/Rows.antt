@@ -21,7 +21,7 @@ use Rattle.theory.specs.SweepWords.{Words}
 use Rattle.rows.specs.declared.Side.{Side}
 use Rattle.theory.specs.Plan.{costAt, IsWay}
 use Rattle.rows.specs.declared.Tails.{Tails}
-use Rattle.rows.specs.Entries.{entryOf, entryAt, inserted, entriesFrom, betterOf, Grown, entries-length}
+use Rattle.entries.specs.Entries.{entryOf, entryAt, inserted, entriesFrom, betterOf, Grown, entries-length}
 use Rattle.rows.specs.Steps.{sideOf, hitsOf, openedOf, stepKey, stepWords}
 
 -- the row with an entry's longer tail, or the row where the step drops it

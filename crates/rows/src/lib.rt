@@ -1,166 +1,16 @@
-// Rows of entries in local memory, as numbers: an entry put in where its key belongs, a step in front of a tail, and the row of a block made of its targets' rows. Only
-// `entry_at` and `put_entry` know how an entry lies in a row's words.
+// Rows in local memory, as numbers: a step in front of a tail, the row of the last block, and the row of a block made of
+// its targets' rows. How an entry lies in a row's words is known in crate entries alone.
 ghost use mathlib.Core.Path.{_≡_};
-ghost use mathlib.Core.Bool.{cond, _&&_};
-ghost use Prim.Native.Nat.{suc, _+_, _*_, _^_, _<_, _≤_};
-ghost use lib.Dec.{eqb, ltb};
+ghost use mathlib.Core.Bool.{cond};
+ghost use Prim.Native.Nat.{_+_, _^_, _<_, _≤_};
 ghost use lib.ListN.{length};
-ghost use Rattle.laws.specs.Terms.{next, heavier};
-ghost use Rattle.theory.specs.Row.{keyBefore};
-ghost use Rattle.theory.specs.Ties.{earlier};
-ghost use Rattle.rows.specs.Entries.{entryAt, entriesFrom, betterOf, inserted, entryPut, Place, Moved, Squeezed, Grown};
-ghost use Rattle.rows.specs.Structs.{tupleOf, structAt};
+ghost use Rattle.entries.specs.Entries.{entriesFrom, Grown};
+ghost use Rattle.entries.specs.Structs.{tupleOf, structAt};
 ghost use Rattle.rows.specs.Steps.{sideOf, hitsOf, openedOf};
 ghost use Rattle.rows.specs.Rows.{pushed, sourceOf, manyOf, tailsBy, Ready, leftFrom};
 ghost use Rattle.rows.specs.Begun.{zeroRow, Holds, begunWith};
+use entries::Entry;
 use plan_words::Way;
-
-// Of tails with one pair of sets of open edges, the jump set and the fall set, the first of the heaviest.
-#[repr(C)]
-pub struct Entry {
-    pub jumps: u64,
-    pub falls: u64,
-    pub way: Way,
-}
-
-// Entry p of a row's words.
-pub fn entry_at(row: &[u64], p: usize) -> Entry
-    requires { ⌜ 5 * suc p ≤ length (now row) ⌝ }
-    ensures { λ r. ⌜ r ≡ structAt (now (row .entry)) p ⌝ }
-{
-    let at = 5 * p;
-    let way = Way {
-        weight: row[at + 2],
-        jumped: row[at + 3],
-        fallen: row[at + 4],
-    };
-    Entry {
-        jumps: row[at],
-        falls: row[at + 1],
-        way,
-    }
-}
-
-// An entry into a row's words, as its entry p, which is returned.
-pub fn put_entry(row: &mut [u64], p: usize, e: Entry) -> usize
-    requires { ⌜ 5 * suc p ≤ length (now row) ⌝ }
-    ensures { λ r. ⌜ now (row .exit) ≡ entryPut (now (row .entry)) p (tupleOf e) ⌝ }
-{
-    let way = e.way;
-    row[5 * p] = e.jumps;
-    row[5 * p + 1] = e.falls;
-    row[5 * p + 2] = way.weight;
-    row[5 * p + 3] = way.jumped;
-    row[5 * p + 4] = way.fallen;
-    p
-}
-
-// Whether the first key comes before the second: by the jump set, then by the fall set.
-fn before(jumps: u64, falls: u64, jumps2: u64, falls2: u64) -> bool
-    ensures { λ r. ⌜ r ≡ keyBefore (jumps, falls) (jumps2, falls2) ⌝ }
-{
-    if jumps < jumps2 {
-        return true;
-    }
-    if jumps2 < jumps {
-        return false;
-    }
-    falls < falls2
-}
-
-// Whether the first tail is better: heavier, or as heavy and first. The lowest block in which their 'left by jump' sets differ tells which is first.
-fn better(one: Way, other: Way) -> bool
-    ensures { λ r. ⌜ r ≡ next (heavier (one .weight) (other .weight)) (heavier (other .weight) (one .weight)) (earlier 64 (one .jumped) (other .jumped)) ⌝ }
-{
-    if other.weight < one.weight {
-        return true;
-    }
-    if one.weight < other.weight {
-        return false;
-    }
-    words::has(
-        one.jumped,
-        u64::trailing_zeros(one.jumped ^ other.jumped) as usize,
-    )
-}
-
-// The first of the held entries whose key is not before this one.
-fn place_of(row: &[u64], held: usize, jumps: u64, falls: u64) -> usize
-    requires { ⌜ 5 * held ≤ length (now row) ⌝ }
-    ensures { λ r. ⌜ Place (now (row .entry)) held (jumps, falls) r ⌝ }
-{
-    let mut p = 0;
-    while p < held {
-        let e = entry_at(row, p);
-        if !before(e.jumps, e.falls, jumps, falls) {
-            return p;
-        }
-        p += 1;
-    }
-    p
-}
-
-// Whether the key is held at the place.
-fn is_held(row: &[u64], held: usize, p: usize, jumps: u64, falls: u64) -> bool
-    requires { ⌜ 5 * held ≤ length (now row) ⌝ }
-    ensures { λ r. ⌜ r ≡ ltb p held && (eqb (entryAt (now (row .entry)) p .0 .0) jumps && eqb (entryAt (now (row .entry)) p .0 .1) falls) ⌝ }
-{
-    if p < held {
-        let e = entry_at(row, p);
-        return e.jumps == jumps && e.falls == falls;
-    }
-    false
-}
-
-// The entries from one place to another, one place on.
-fn open_gap(row: &mut [u64], from: usize, to: usize)
-    requires { ⌜ (from ≤ to) × (5 * suc to ≤ length (now row)) ⌝ }
-    ensures { λ r. ⌜ Moved (now (row .entry)) (now (row .exit)) (5 * from) (5 * to) ⌝ }
-{
-    let mut i = to;
-    while from < i {
-        let e = entry_at(row, i - 1);
-        put_entry(row, i, e);
-        i -= 1;
-    }
-}
-
-// The better of this entry and the one at the place.
-fn keep_better(row: &mut [u64], p: usize, e: Entry)
-    requires { ⌜ 5 * suc p ≤ length (now row) ⌝ }
-    ensures { λ r. ⌜ now (row .exit) ≡ cond (betterOf (tupleOf e .1) (entryAt (now (row .entry)) p .1)) (entryPut (now (row .entry)) p (tupleOf e)) (now (row .entry)) ⌝ }
-{
-    let held = entry_at(row, p);
-    if better(e.way, held.way) {
-        put_entry(row, p, e);
-    }
-}
-
-// The entry at the place, those from there on one place further.
-fn squeeze_in(row: &mut [u64], held: usize, p: usize, e: Entry)
-    requires { ⌜ (p ≤ held) × (5 * suc held ≤ length (now row)) ⌝ }
-    ensures { λ r. ⌜ Squeezed (now (row .entry)) (now (row .exit)) p held (tupleOf e) ⌝ }
-{
-    open_gap(row, p, held);
-    put_entry(row, p, e);
-}
-
-// One entry more in an ascending row, one for each key, the better one; how many are held then. The 65th key is counted, and not put in.
-fn insert(row: &mut [u64], held: usize, e: Entry) -> usize
-    requires { ⌜ (length (now row) ≡ 320) × (held ≤ 64) ⌝ }
-    ensures { λ r. ⌜ Grown (inserted (tupleOf e) (entriesFrom (now (row .entry)) 0 held)) (now (row .entry)) (now (row .exit)) r ⌝ }
-{
-    let p = place_of(row, held, e.jumps, e.falls);
-    if is_held(row, held, p, e.jumps, e.falls) {
-        keep_better(row, p, e);
-        return held;
-    }
-    if held < 64 {
-        squeeze_in(row, held, p, e);
-        return held + 1;
-    }
-    65
-}
 
 // One side of a step in front of tails, which leaves a block by a way: of the jump edges, or of the fall edges, those that it conflicts with, those that the
 // block's effects deny, its own where the block tests, those that stay open; and its block, where it is left by this side's way.
@@ -232,7 +82,7 @@ fn add_tail(jumps: Side, falls: Side, cost: u64, tail: Entry, row: &mut [u64], h
         falls: opened(falls, tail.falls),
         way,
     };
-    insert(row, held, longer)
+    entries::insert(row, held, longer)
 }
 
 // How many tails a block has to choose from, by jump or go and by fall.
@@ -254,9 +104,9 @@ fn tail_of(first: &[u64], second: &[u64], way: usize, i: usize) -> Entry
     ensures { λ r. ⌜ r ≡ structAt (sourceOf (now (first .entry)) (now (second .entry)) way) i ⌝ }
 {
     if way == 1 {
-        return entry_at(first, i);
+        return entries::entry_at(first, i);
     }
-    entry_at(second, i)
+    entries::entry_at(second, i)
 }
 
 // The tails of b into its row, by each way those of the target's row, until the 65th set appears; how many are held then.
@@ -310,7 +160,7 @@ pub fn begin(plan: &[u64], b: usize, count: usize, row: &mut [u64]) -> usize
             falls: 0,
             way,
         };
-        put_entry(row, 0, own);
+        entries::put_entry(row, 0, own);
         return 1;
     }
     0

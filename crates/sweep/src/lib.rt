@@ -11,7 +11,7 @@ ghost use Rattle.sweep_steps.specs.Answer.{outcomeOf, SweepOwed, OwnTableOwed};
 ghost use Rattle.sweep_steps.specs.Table.{fetched, stored};
 ghost use Rattle.sweep_steps.specs.Turn.{TurnReady, turnedBy};
 ghost use Rattle.sweep_steps.specs.Drive.{SweptAs};
-use rows::Entry;
+use entries::Entry;
 use sweep_steps::Drive;
 use sweep_steps::SweepAnswer;
 use sweep_steps::Swept;

@@ -15,7 +15,7 @@ use Rattle.theory.specs.Route.{Path, Side, dearest, routeOn, boundOf, routeByte
 use Rattle.theory.specs.Row as theory
 use Rattle.theory.specs.Row.{row, filled, kept, crowded}
 use Rattle.plan.specs.Owed.{Owed}
-use Rattle.rows.specs.declared.Entry.{Entry}
+use Rattle.entries.specs.declared.Entry.{Entry}
 use Rattle.sweep_steps.specs.declared.SweepAnswer.{SweepAnswer}
 use Rattle.sweep_steps.specs.declared.SweepAnswer.the-variants.{Routed, Refused}
 

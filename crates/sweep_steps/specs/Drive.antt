@@ -23,9 +23,9 @@ use Rattle.theory.specs.SweepWords as words
 use Rattle.theory.specs.SweepWords.{Words, row-words, row-length}
 use Rattle.theory.specs.Range.{Range, up-past}
 use Rattle.theory.specs.Plan.{costAt, Planned, PlanOf, costLimit}
-use Rattle.rows.specs.declared.Entry.{Entry}
-use Rattle.rows.specs.Entries.{entries-length}
-use Rattle.rows.specs.Structs.{tupleOf, structAt}
+use Rattle.entries.specs.declared.Entry.{Entry}
+use Rattle.entries.specs.Entries.{entries-length}
+use Rattle.entries.specs.Structs.{tupleOf, structAt}
 use Rattle.rows.specs.Begun.{Holds}
 use Rattle.sweep_steps.specs.declared.Swept.{Swept}
 use Rattle.sweep_steps.specs.declared.Swept.the-variants.{Crowded, Rows}

@@ -14,7 +14,7 @@ use Rattle.sweep_steps.specs.declared.Swept.{Swept}
 use Rattle.sweep_steps.specs.declared.Swept.the-variants.{Crowded, Rows}
 use Rattle.theory.specs.Plan.{Planned, PlanOf}
 use Rattle.sweep_steps.specs.Drive.{noLengths, SweptAs, Sweeping, sweeping-start, sweeping-light, sweeping-inside, sweeping-more, sweeping-crowded, sweeping-end}
-use Rattle.rows.specs.declared.Entry.{Entry}
+use Rattle.entries.specs.declared.Entry.{Entry}
 use Rattle.sweep_steps.specs.declared.Drive.{Drive}
 use Rattle.sweep_steps.specs.Turn.{TurnReady, turnedBy}
 

@@ -28,9 +28,9 @@ use Rattle.plan_words.specs.declared.Way.{Way}
 use Rattle.plan.specs.Prepared.{Start, PreparedOf, refusal-owed, start-owed, start-plan, start-few}
 use Rattle.plan.specs.Prepared.PreparedOf.{refused as Refuses, ready as Starts}
 use Rattle.plan.specs.RouteWords.{bytesOf}
-use Rattle.rows.specs.declared.Entry.{Entry}
-use Rattle.rows.specs.Entries.{entryAt}
-use Rattle.rows.specs.Structs.{tupleOf, structAt, structOf}
+use Rattle.entries.specs.declared.Entry.{Entry}
+use Rattle.entries.specs.Entries.{entryAt}
+use Rattle.entries.specs.Structs.{tupleOf, structAt, structOf}
 use Rattle.rows.specs.Begun.{zeroRow, zero-at}
 use Rattle.sweep_steps.specs.declared.Swept.{Swept}
 use Rattle.sweep_steps.specs.declared.Swept.the-variants.{Crowded, Rows}

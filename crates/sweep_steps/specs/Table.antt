@@ -17,9 +17,9 @@ use Rattle.theory.specs.Row as theory
 use Rattle.theory.specs.Row.{Key, filled}
 use Rattle.theory.specs.SweepWords as words
 use Rattle.theory.specs.SweepWords.{Words}
-use Rattle.rows.specs.declared.Entry.{Entry}
-use Rattle.rows.specs.Entries.{entryAt, entriesFrom, entryPut, put-length, put-at, put-below, entry-alike, entries-append, entries-length}
-use Rattle.rows.specs.Structs.{tupleOf, structOf, structAt}
+use Rattle.entries.specs.declared.Entry.{Entry}
+use Rattle.entries.specs.Entries.{entryAt, entriesFrom, entryPut, put-length, put-at, put-below, entry-alike, entries-append, entries-length}
+use Rattle.entries.specs.Structs.{tupleOf, structOf, structAt}
 use Rattle.rows.specs.Begun.{zeroRow, zero-length}
 use Rattle.sweep_steps.specs.Answer.{entryFrom, noEntry, tableWith}
 

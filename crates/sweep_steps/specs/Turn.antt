@@ -27,9 +27,9 @@ use Rattle.theory.specs.SweepWords.{Words, Fits, entry-fits, rowWords, growWord
 use Rattle.theory.specs.Main.{sweep-turn}
 use Rattle.theory.specs.Range.{Range, upTo}
 use Rattle.theory.specs.Plan.{targetAt, costAt, exitBy, IsWay, Planned, costLimit, PlanOf}
-use Rattle.rows.specs.declared.Entry.{Entry}
+use Rattle.entries.specs.declared.Entry.{Entry}
 use Rattle.rows.specs.declared.Tails.{Tails}
-use Rattle.rows.specs.Entries.{entryAt, entriesFrom, betterOf, Grown, entries-length}
+use Rattle.entries.specs.Entries.{entryAt, entriesFrom, betterOf, Grown, entries-length}
 use Rattle.rows.specs.Steps.{sideOf, stepKey, stepWords, step-key, step-words}
 use Rattle.rows.specs.Rows.{tailsBy, pouredBy, leftFrom, left-grows, Ready}
 use Rattle.rows.specs.Begun.{Holds, begunWith, zeroRow, zero-length}

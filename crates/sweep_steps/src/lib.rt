@@ -6,8 +6,8 @@ ghost use Prim.Native.Nat.{ℕ, suc, max, min, _*_, _-_, _^_, _<_, _≤_};
 ghost use lib.ListN.{length, getD};
 ghost use Rattle.theory.specs.Plan.{costLimit};
 ghost use Rattle.plan.specs.Prepared.{PreparedOf};
-ghost use Rattle.rows.specs.Entries.{entryPut};
-ghost use Rattle.rows.specs.Structs.{tupleOf, structAt};
+ghost use Rattle.entries.specs.Entries.{entryPut};
+ghost use Rattle.entries.specs.Structs.{tupleOf, structAt};
 ghost use Rattle.rows.specs.Rows.{Ready, tailsBy, leftFrom};
 ghost use Rattle.rows.specs.Begun.{begunWith};
 ghost use Rattle.sweep_steps.specs.Answer.{noEntry};
@@ -18,7 +18,7 @@ ghost use Rattle.sweep_steps.specs.Ends.{allowedOf, WeightFew, answerOf,
 ghost use Rattle.sweep_steps.specs.declared.SweepAnswer.the-variants.{Refused};
 use plan::Prepared;
 use plan_words::Way;
-use rows::Entry;
+use entries::Entry;
 use rows::Tails;
 
 // An entry into a row's words, as its entry p.
@@ -26,7 +26,7 @@ pub fn put_words(row: &mut [u64], p: usize, e: Entry) -> usize
     requires { ⌜ 5 * suc p ≤ length (now row) ⌝ }
     ensures { λ r. ⌜ now (row .exit) ≡ entryPut (now (row .entry)) p (tupleOf e) ⌝ }
 {
-    rows::put_entry(row, p, e)
+    entries::put_entry(row, p, e)
 }
 
 // Entry k of a row's words.
@@ -34,7 +34,7 @@ pub fn entry_of(words: &[u64], k: usize) -> Entry
     requires { ⌜ 5 * suc k ≤ length (now words) ⌝ }
     ensures { λ r. ⌜ r ≡ structAt (now (words .entry)) k ⌝ }
 {
-    rows::entry_at(words, k)
+    entries::entry_at(words, k)
 }
 
 // Where the drive stands: whether it goes on, the blocks to come, the longest row so far, the length of the last row made, and that of each row that is complete.
@@ -235,7 +235,7 @@ fn answer(
     if found == 0 {
         return refuse(43, 0);
     }
-    let first = rows::entry_at(row, 0);
+    let first = entries::entry_at(row, 0);
     let way = first.way;
     let weight = way.weight;
     plan::route::write_route(count, way.jumped, way.fallen, route);

@@ -5,7 +5,7 @@ use mathlib.Core.Path.{_≡_, refl}
 use mathlib.Core.List.{List}
 use Prim.Native.Nat.{ℕ, _<_}
 use Rattle.theory.specs.Route.{dearest}
-use Rattle.rows.specs.declared.Entry.{Entry}
+use Rattle.entries.specs.declared.Entry.{Entry}
 use Rattle.walk.specs.declared.WalkAnswer.the-variants.{Walked}
 use Rattle.walk.specs.Answer as walk
 use Rattle.sweep_steps.specs.declared.SweepAnswer.the-variants.{Routed}

@@ -20,7 +20,7 @@ use Rattle.theory.specs.Row.{crowded}
 use Rattle.theory.specs.Run.{Run, runCost}
 use Rattle.plan.specs.Owed.{CountOf}
 use Rattle.plan.specs.Accepted.{owed-once}
-use Rattle.rows.specs.declared.Entry.{Entry}
+use Rattle.entries.specs.declared.Entry.{Entry}
 use Rattle.sweep_steps.specs.declared.SweepAnswer.{SweepAnswer}
 use Rattle.sweep_steps.specs.declared.SweepAnswer.the-variants.{Routed, Refused}
 use Rattle.sweep_steps.specs.Answer.{Values, refusal, said, Outcome, outcomeOf, refused, routed, swept, sweepOutcome, SweepOwed, ownTable, OwnTableOwed}

@@ -41,10 +41,10 @@ use Rattle.sweep_steps.proofs.SweepAnswer as S
 use Rattle.sweep_steps.proofs.SweepAnswer.Laws as S′
 use Rattle.sweep_steps.specs.declared.SweepAnswer.{SweepAnswer}
 use Rattle.sweep_steps.specs.Answer.{Values, outcomeOf, SweepOwed}
-use Rattle.rows.specs.declared.Entry.{Entry}
+use Rattle.entries.specs.declared.Entry.{Entry}
 use Rattle.desk.specs.declared.SweepNumbers.{SweepNumbers}
 use Rattle.desk.specs.Answer.{sweepValues, sweepSaid, sweptOutcome}
-use Rattle.rows.proofs.Entry as T
+use Rattle.entries.proofs.Entry as T
 use Rattle.desk.proofs.SweepNumbers as P
 use Rattle.desk.proofs.SweepNumbers.Laws as P′
 use Rattle.sweep.proofs.sweep as the-sweep

@@ -3,8 +3,8 @@ use mathlib.Core.Path.{sym, subst}
 use mathlib.Core.List.{List}
 use Rattle.theory.specs.Row.{Key}
 use Rattle.theory.specs.SweepWords.{Words}
-use Rattle.rows.specs.Entries.{entriesFrom, Grown}
-use Rattle.rows.specs.Structs.{tupleOf}
+use Rattle.entries.specs.Entries.{entriesFrom, Grown}
+use Rattle.entries.specs.Structs.{tupleOf}
 use Rattle.rows.specs.Rows.{grown-none, pushed-dropped, pushed-kept}
 use borrow.Author.Needs.{needs}
 use Rattle.rows.proofs.add_tail.Statement.{statement}

@@ -6,7 +6,7 @@ use native.Mathlib.Numerals.{add-one}
 use native.Mathlib.Omega.{arith}
 use lib.ListN.{length}
 use Rattle.theory.specs.Edges.{noEdges}
-use Rattle.rows.specs.Entries.{entryPut}
+use Rattle.entries.specs.Entries.{entryPut}
 use Rattle.rows.specs.Begun.{zero-length, Holds, begunWith, begun-last, begun-other}
 use borrow.Author.Needs.{needs}
 use Rattle.rows.proofs.begin.Statement.{statement}

@@ -5,9 +5,9 @@ use mathlib.Core.Path.{_≡_, sym, ap, subst, _∙_}
 use Prim.Native.Nat.{ℕ, _+_, _-_, _^_, _≤_, _<_}
 use native.Mathlib.Omega.{arith}
 use lib.ListN.{length}
-use Rattle.rows.specs.declared.Entry.{Entry}
-use Rattle.rows.specs.Entries.{entryAt, entriesFrom, Grown}
-use Rattle.rows.specs.Structs.{tupleOf}
+use Rattle.entries.specs.declared.Entry.{Entry}
+use Rattle.entries.specs.Entries.{entryAt, entriesFrom, Grown}
+use Rattle.entries.specs.Structs.{tupleOf}
 use Rattle.rows.specs.Rows.{sourceOf, manyOf, tailsBy, many-few, pushed, poured, leftFrom, Filling, filling-start, filling-same, filling-end, grown-past, AtTail, at-first, at-next, at-over, at-last, ways-end, way-next, way-over}
 use Rattle.rows.proofs.build.Statement.{statement}
 use Rattle.rows.proofs.build.Tie as tie

@@ -52,14 +52,14 @@ use denote.Triple.Table.{entered, cited}
 use denote.Triple.Walked.{says, needs, Stays, stay-none, stay-slice, walkOf, goes-none, goes-slice, Walks, ends-at, walked, walk-meets}
 use denote.Exit.{yes}
 use denote.Signature.{plain}
-use Rattle.rows.specs.Entries.{entryPut}
-use Rattle.rows.specs.declared.Entry.{Entry}
+use Rattle.entries.specs.Entries.{entryPut}
+use Rattle.entries.specs.declared.Entry.{Entry}
 use Rattle.sweep_steps.specs.Answer.{noEntry}
-use Rattle.rows.specs.Structs.{tupleOf}
+use Rattle.entries.specs.Structs.{tupleOf}
 use Rattle.sweep_steps.specs.Table.{fetched, fetched-none, fetched-more, fetched-length}
 use Rattle.sweep.proofs.Again.{LentAgain, lends-again, comes-back}
-use Rattle.rows.proofs.Entry as T
-use Rattle.rows.proofs.Entry.Laws as T′
+use Rattle.entries.proofs.Entry as T
+use Rattle.entries.proofs.Entry.Laws as T′
 use Rattle.sweep_steps.proofs.put_words as put-words
 use Rattle.sweep_steps.proofs.put_words.Symbol as put-words-def
 use Rattle.sweep_steps.proofs.put_words.Symbol.{name as #sweep-steps·put-words}

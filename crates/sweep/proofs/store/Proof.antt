@@ -54,12 +54,12 @@ use denote.Triple.Table.{entered, cited}
 use denote.Triple.Walked.{says, needs, Stays, stay-none, stay-slice, walkOf, goes-none, goes-slice, Walks, ends-at, walked, walk-meets}
 use denote.Exit.{yes}
 use denote.Signature.{plain}
-use Rattle.rows.specs.declared.Entry.{Entry}
-use Rattle.rows.specs.Structs.{structAt}
+use Rattle.entries.specs.declared.Entry.{Entry}
+use Rattle.entries.specs.Structs.{structAt}
 use Rattle.sweep_steps.specs.Table.{stored, stored-none, stored-more, stored-length}
 use Rattle.sweep.proofs.Lent.{arrayTy, array-out, array-back, words-at, words-val, words-lent, lends-words, words-back}
-use Rattle.rows.proofs.Entry as T
-use Rattle.rows.proofs.Entry.Laws as T′
+use Rattle.entries.proofs.Entry as T
+use Rattle.entries.proofs.Entry.Laws as T′
 use Rattle.sweep_steps.proofs.entry_of as entry-of
 use Rattle.sweep_steps.proofs.entry_of.Symbol as entry-of-def
 use Rattle.sweep_steps.proofs.entry_of.Symbol.{name as #sweep-steps·entry-of}

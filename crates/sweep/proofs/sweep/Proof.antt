@@ -52,8 +52,8 @@ use Rattle.plan.specs.declared.Prepared.{Prepared}
 use Rattle.plan.specs.Prepared.{PreparedOf}
 use Rattle.plan.proofs.Prepared as P
 use Rattle.plan.proofs.Prepared.Laws as P′
-use Rattle.rows.specs.declared.Entry.{Entry}
-use Rattle.rows.proofs.Entry as T
+use Rattle.entries.specs.declared.Entry.{Entry}
+use Rattle.entries.proofs.Entry as T
 use Rattle.sweep_steps.specs.declared.Swept.{Swept}
 use Rattle.sweep_steps.specs.declared.SweepAnswer.{SweepAnswer}
 use Rattle.sweep_steps.proofs.Swept as E

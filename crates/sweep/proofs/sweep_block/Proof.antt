@@ -48,7 +48,7 @@ use denote.Exit.{yes}
 use denote.Signature.{plain}
 use Rattle.rows.specs.Rows.{Ready, tailsBy, leftFrom}
 use Rattle.rows.specs.Begun.{begunWith}
-use Rattle.rows.specs.declared.Entry.{Entry}
+use Rattle.entries.specs.declared.Entry.{Entry}
 use Rattle.sweep_steps.specs.declared.Drive.{Drive}
 use Rattle.sweep_steps.specs.declared.Sources.{Sources}
 use Rattle.sweep_steps.specs.declared.Built.{Built}
@@ -56,7 +56,7 @@ use Rattle.sweep_steps.specs.Table.{fetched, fetched-length, stored}
 use Rattle.sweep_steps.specs.Turn.{sourcesOf, tailsIn, BuiltAs, TurnReady, turnedBy, jump-asked, fall-asked, make-asked, store-asked, turn-made, same-words}
 use Rattle.sweep.proofs.Lent.{arrayTy, repeated-length, repeated-typed, repeated-out, array-in, words-at, words-val, words-lent, lends-words, words-back}
 use Rattle.sweep.proofs.Again.{LentAgain, lends-again, comes-back}
-use Rattle.rows.proofs.Entry as T
+use Rattle.entries.proofs.Entry as T
 use Rattle.sweep_steps.proofs.Drive as D
 use Rattle.sweep_steps.proofs.Drive.Laws as D′
 use Rattle.sweep_steps.proofs.Sources as S

@@ -48,11 +48,11 @@ use denote.Signature.{plain}
 use Rattle.sweep_steps.specs.declared.SweepAnswer.{SweepAnswer}
 use Rattle.sweep_steps.proofs.SweepAnswer as S
 use Rattle.sweep_steps.proofs.SweepAnswer.Laws as S′
-use Rattle.rows.specs.declared.Entry.{Entry}
+use Rattle.entries.specs.declared.Entry.{Entry}
 use Rattle.sweep_steps.specs.Answer.{noEntry, outcomeOf, SweepOwed}
 use Rattle.sweep.proofs.Lent.{big-lit, arrayTy, repeated-length, repeated-typed, repeated-out, array-in}
-use Rattle.rows.proofs.Entry as T
-use Rattle.rows.proofs.Entry.Laws as T′
+use Rattle.entries.proofs.Entry as T
+use Rattle.entries.proofs.Entry.Laws as T′
 use Rattle.sweep.proofs.sweep as the-sweep
 use Rattle.sweep.proofs.sweep.Symbol as sweep-def
 use Rattle.sweep.proofs.sweep.Symbol.{name as #sweep·sweep}

@@ -53,12 +53,12 @@ use Rattle.sweep_steps.specs.Drive.{SweptAs}
 use Rattle.sweep_steps.specs.declared.Swept.{Swept}
 use Rattle.sweep_steps.proofs.Swept as E
 use Rattle.sweep_steps.proofs.Swept.Laws as E′
-use Rattle.rows.specs.declared.Entry.{Entry}
+use Rattle.entries.specs.declared.Entry.{Entry}
 use Rattle.sweep_steps.specs.declared.Drive.{Drive}
 use Rattle.sweep_steps.specs.Turn.{TurnReady, turnedBy}
 use Rattle.sweep_steps.specs.Driven.{started, following, finished, left, Driven, driven-start, turn-ready, lengths-size, driven-more, left-less}
 use Rattle.sweep.proofs.Again.{LentAgain, lends-again, comes-back}
-use Rattle.rows.proofs.Entry as T
+use Rattle.entries.proofs.Entry as T
 use Rattle.sweep_steps.proofs.Drive as D
 use Rattle.sweep_steps.proofs.Drive.Laws as D′
 use Rattle.sweep_steps.proofs.start as the-start

@@ -4,8 +4,8 @@ use Prim.Native.Nat.{ℕ, _<_, _≤_}
 use native.Mathlib.Omega.{arith}
 use Rattle.theory.specs.Plan.{costLimit}
 use Rattle.plan.specs.Accepted.{product}
-use Rattle.rows.specs.declared.Entry.{Entry}
-use Rattle.rows.specs.Structs.{structAt}
+use Rattle.entries.specs.declared.Entry.{Entry}
+use Rattle.entries.specs.Structs.{structAt}
 use Rattle.sweep_steps.specs.Ends.{answerOf, answer-none, answer-some}
 use borrow.Author.Needs.{needs}
 use Rattle.sweep_steps.proofs.answer.Statement.{statement}

@@ -1,13 +1,13 @@
--- `rows::squeeze_in` meets its contract.
+-- `entries::squeeze_in` meets its contract.
 use mathlib.Core.Path.{sym, subst}
 use mathlib.Core.List.{List}
 use Prim.Native.Nat.{ℕ}
 use native.Mathlib.Omega.{arith}
-use Rattle.rows.specs.Entries.{Squeezed, squeezed}
-use Rattle.rows.specs.Structs.{tupleOf}
+use Rattle.entries.specs.Entries.{Squeezed, squeezed}
+use Rattle.entries.specs.Structs.{tupleOf}
 use borrow.Author.Needs.{needs}
-use Rattle.rows.proofs.squeeze_in.Statement.{statement}
-use Rattle.rows.proofs.squeeze_in.Tie as tie
+use Rattle.entries.proofs.squeeze_in.Statement.{statement}
+use Rattle.entries.proofs.squeeze_in.Tie as tie
 
 returns : tie.Need-returns
 returns c =

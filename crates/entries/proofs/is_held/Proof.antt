@@ -1,10 +1,10 @@
--- `rows::is_held` meets its contract.
+-- `entries::is_held` meets its contract.
 use mathlib.Core.Path.{sym, ap, _∙_}
 use borrow.Author.Tests.{lt-ltb, le-ltb, eq-eqb, ne-eqb}
-use Rattle.rows.specs.declared.Entry.{Entry}
+use Rattle.entries.specs.declared.Entry.{Entry}
 use borrow.Author.Needs.{needs}
-use Rattle.rows.proofs.is_held.Statement.{statement}
-use Rattle.rows.proofs.is_held.Tie as tie
+use Rattle.entries.proofs.is_held.Statement.{statement}
+use Rattle.entries.proofs.is_held.Tie as tie
 
 returns : tie.Need-returns
 returns c =

@@ -1,9 +1,9 @@
--- `rows::put_entry` meets its contract.
+-- `entries::put_entry` meets its contract.
 use native.Mathlib.Omega.{arith}
 use lib.ListN.{length-set}
 use borrow.Author.Needs.{needs}
-use Rattle.rows.proofs.put_entry.Statement.{statement}
-use Rattle.rows.proofs.put_entry.Tie as tie
+use Rattle.entries.proofs.put_entry.Statement.{statement}
+use Rattle.entries.proofs.put_entry.Tie as tie
 
 slice-write-row-2 : tie.Need-slice-write-row-2
 slice-write-row-2 c = simp length-set (omega arith)

@@ -4,8 +4,8 @@ use Prim.Native.Nat.{ℕ}
 use Rattle.theory.specs.Row.{Key}
 use Rattle.theory.specs.SweepWords.{Words}
 use Rattle.plan_words.specs.declared.Way.{Way}
-use Rattle.rows.specs.declared.Entry.{Entry}
-use Rattle.rows.specs.Entries.{entryAt}
+use Rattle.entries.specs.declared.Entry.{Entry}
+use Rattle.entries.specs.Entries.{entryAt}
 
 abbrev pub wordsIn : Way → Words
 wordsIn w = (w .weight, (w .jumped, w .fallen))

@@ -1,13 +1,13 @@
--- `rows::insert` meets its contract.
+-- `entries::insert` meets its contract.
 use mathlib.Core.Path.{_≡_, sym, subst}
 use Prim.Native.Nat.{ℕ, _<_}
 use native.Mathlib.Numerals.{add-one}
 use native.Mathlib.Omega.{arith}
-use Rattle.rows.specs.Entries.{entryAt, entriesFrom, inserted, Grown, held-at, not-held, grown-kept, grown-new, grown-over}
-use Rattle.rows.specs.Structs.{tupleOf}
+use Rattle.entries.specs.Entries.{entryAt, entriesFrom, inserted, Grown, held-at, not-held, grown-kept, grown-new, grown-over}
+use Rattle.entries.specs.Structs.{tupleOf}
 use borrow.Author.Needs.{needs}
-use Rattle.rows.proofs.insert.Statement.{statement}
-use Rattle.rows.proofs.insert.Tie as tie
+use Rattle.entries.proofs.insert.Statement.{statement}
+use Rattle.entries.proofs.insert.Tie as tie
 
 -- the key is held at the place, or it is not
 held : (c : tie.Then1) →

@@ -1,4 +1,4 @@
--- `rows::place_of` meets its contract. The loop's invariant: every entry passed has a lower key. The measure is what is
+-- `entries::place_of` meets its contract. The loop's invariant: every entry passed has a lower key. The measure is what is
 -- left of the entries.
 use mathlib.Core.Path.{_≡_, sym, _∙_, ap}
 use mathlib.Core.Bool.{true}
@@ -7,10 +7,10 @@ use native.Mathlib.Omega.{arith}
 use borrow.Author.Count.{below-more}
 use borrow.Author.Tests.{not-true, not-false}
 use Rattle.theory.specs.Row.{keyBefore}
-use Rattle.rows.specs.Entries.{entryAt}
-use Rattle.rows.specs.declared.Entry.{Entry}
-use Rattle.rows.proofs.place_of.Statement.{statement}
-use Rattle.rows.proofs.place_of.Tie as tie
+use Rattle.entries.specs.Entries.{entryAt}
+use Rattle.entries.specs.declared.Entry.{Entry}
+use Rattle.entries.proofs.place_of.Statement.{statement}
+use Rattle.entries.proofs.place_of.Tie as tie
 
 abbrev Inv-loop : tie.InvT-loop
 Inv-loop row held jumps falls p₀ p = (p ≤ held) × ((i : ℕ) → i < p → keyBefore (entryAt row i .0) (jumps, falls) ≡ true)

@@ -1,12 +1,12 @@
--- `rows::better` meets its contract.
+-- `entries::better` meets its contract.
 use native.Mathlib.Omega.{arith}
 use borrow.Author.Tests.{lt-ltb, le-ltb}
 use lib.Bits.{bitXor}
 use lib.Count.{trailing-le}
 use Rattle.theory.specs.Ties.{earlier}
 use borrow.Author.Needs.{needs}
-use Rattle.rows.proofs.better.Statement.{statement}
-use Rattle.rows.proofs.better.Tie as tie
+use Rattle.entries.proofs.better.Statement.{statement}
+use Rattle.entries.proofs.better.Tie as tie
 
 returns : tie.Need-returns
 returns c = let a = c .before .before .before .args in rw (lt-ltb (a .other .weight) (a .one .weight) (c .if1 .taken))

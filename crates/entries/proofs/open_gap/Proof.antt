@@ -1,14 +1,14 @@
--- `rows::open_gap` meets its contract. The loop's invariant: the entries from i on are moved, those up to i are as they
+-- `entries::open_gap` meets its contract. The loop's invariant: the entries from i on are moved, those up to i are as they
 -- were. The measure is i.
 use mathlib.Core.Path.{_≡_, sym, ap, subst, _∙_}
 use mathlib.Core.List.{List}
 use Prim.Native.Nat.{ℕ, _-_, _≤_}
 use native.Mathlib.Omega.{arith}
 use lib.ListN.{length}
-use Rattle.rows.specs.Entries.{Moving, moving-none, moving-more, moving-end, entryPut}
-use Rattle.rows.specs.Structs.{tupleOf}
-use Rattle.rows.proofs.open_gap.Statement.{statement}
-use Rattle.rows.proofs.open_gap.Tie as tie
+use Rattle.entries.specs.Entries.{Moving, moving-none, moving-more, moving-end, entryPut}
+use Rattle.entries.specs.Structs.{tupleOf}
+use Rattle.entries.proofs.open_gap.Statement.{statement}
+use Rattle.entries.proofs.open_gap.Tie as tie
 
 abbrev Inv-loop : tie.InvT-loop
 Inv-loop row₀ from to i₀ row i = (Moving row₀ row i to × (from ≤ i)) × ((i ≤ to) × (length row ≡ length row₀))

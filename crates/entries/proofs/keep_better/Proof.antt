@@ -1,11 +1,11 @@
--- `rows::keep_better` meets its contract.
+-- `entries::keep_better` meets its contract.
 use mathlib.Core.Path.{refl, ap, _∙_}
-use Rattle.rows.specs.Entries.{betterOf, entryPut, picked, passed-by}
-use Rattle.rows.specs.Structs.{wordsIn, tupleOf}
-use Rattle.rows.specs.declared.Entry.{Entry}
+use Rattle.entries.specs.Entries.{betterOf, entryPut, picked, passed-by}
+use Rattle.entries.specs.Structs.{wordsIn, tupleOf}
+use Rattle.entries.specs.declared.Entry.{Entry}
 use borrow.Author.Needs.{needs}
-use Rattle.rows.proofs.keep_better.Statement.{statement}
-use Rattle.rows.proofs.keep_better.Tie as tie
+use Rattle.entries.proofs.keep_better.Statement.{statement}
+use Rattle.entries.proofs.keep_better.Tie as tie
 
 returns : tie.Need-returns
 returns c =

@@ -1,7 +1,7 @@
--- `rows::before` meets its contract.
+-- `entries::before` meets its contract.
 use borrow.Author.Tests.{lt-ltb, le-ltb}
-use Rattle.rows.proofs.before.Statement.{statement}
-use Rattle.rows.proofs.before.Tie as tie
+use Rattle.entries.proofs.before.Statement.{statement}
+use Rattle.entries.proofs.before.Tie as tie
 
 returns : tie.Need-returns
 returns c = rw (lt-ltb (c .before .args .jumps) (c .before .args .jumps2) (c .if1 .taken))

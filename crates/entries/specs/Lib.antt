@@ -1,0 +1,3 @@
+-- Entries in a row: as flat words and put in (Entries), as structs (Structs).
+pub mod Entries
+pub mod Structs
