@@ -16,9 +16,9 @@ use Rattle.ways.specs.Answered.{answered-sound, Agree, answered-agree}
 use Rattle.ways.specs.Walk.{walk-answered}
 use Rattle.ways.specs.Sweep.{sweep-answered}
 use Rattle.ways.specs.Agreement.{refuse-alike}
-use Rattle.desk.specs.declared.SweepNumbers.{SweepNumbers}
-use Rattle.desk.specs.declared.WalkNumbers.{WalkNumbers}
-use Rattle.desk.specs.Answer.{walkValues, sweptOutcome, OwnSweepOwed}
+use Rattle.numbers.specs.declared.SweepNumbers.{SweepNumbers}
+use Rattle.numbers.specs.declared.WalkNumbers.{WalkNumbers}
+use Rattle.numbers.specs.Answer.{walkValues, sweptOutcome, OwnSweepOwed}
 
 -- no run of at most so many iterations costs more than the bound
 abbrev pub Bounds : (form : List ℕ) → (iterations bound : ℕ) → Type 0

@@ -17,12 +17,12 @@ use Rattle.plan.specs.Accepted as Routes
 use Rattle.walk.specs.Answer as Walk
 use Rattle.entries.specs.declared.Entry.{Entry}
 use Rattle.sweep_steps.specs.Answer as Sweep
-use Rattle.desk.specs.declared.CountAnswer.{CountAnswer}
-use Rattle.desk.specs.declared.FormAnswer.{FormAnswer}
-use Rattle.desk.specs.declared.ListNumbers.{ListNumbers}
-use Rattle.desk.specs.declared.SweepNumbers.{SweepNumbers}
-use Rattle.desk.specs.declared.WalkNumbers.{WalkNumbers}
-use Rattle.desk.specs.Answer.{verdictAnswer, rewriteAnswer, rewriteHeld, countValues, listNumbers, walkValues, sweptOutcome, OwnSweepOwed}
+use Rattle.numbers.specs.declared.CountAnswer.{CountAnswer}
+use Rattle.numbers.specs.declared.FormAnswer.{FormAnswer}
+use Rattle.numbers.specs.declared.ListNumbers.{ListNumbers}
+use Rattle.numbers.specs.declared.SweepNumbers.{SweepNumbers}
+use Rattle.numbers.specs.declared.WalkNumbers.{WalkNumbers}
+use Rattle.numbers.specs.Answer.{verdictAnswer, rewriteAnswer, rewriteHeld, countValues, listNumbers, walkValues, sweptOutcome, OwnSweepOwed}
 
 pub one-count :
     (initial step : ℤ) (relation : ℕ) (limit : ℤ) (a b : CountAnswer) → Owed initial step relation limit (countValues a)

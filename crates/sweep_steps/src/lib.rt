@@ -16,9 +16,9 @@ ghost use Rattle.sweep_steps.specs.Drive.{noLengths};
 ghost use Rattle.sweep_steps.specs.Driven.{started, following, finished};
 ghost use Rattle.sweep_steps.specs.Ends.{allowedOf, WeightFew, answerOf, concluded};
 ghost use Rattle.sweep_steps.specs.declared.SweepAnswer.the-variants.{Refused};
+use entries::Entry;
 use plan::Prepared;
 use plan_words::Way;
-use entries::Entry;
 use rows::Tails;
 
 // An entry into a row's words, as its entry p.

@@ -4,7 +4,7 @@ use Rattle.form.specs.Form.{bodyOf}
 use Rattle.form.specs.Conflict.{conflictBytes}
 use Rattle.listing.specs.declared.Listed.{Listed}
 use Rattle.listing.specs.Answer.{heldAfter}
-use Rattle.desk.specs.Answer.{listNumbers}
+use Rattle.numbers.specs.Answer.{listNumbers}
 use borrow.Author.Needs.{needs}
 use Rattle.desk.proofs.somniaret_conflicts.Statement.{statement}
 use Rattle.desk.proofs.somniaret_conflicts.Tie as tie

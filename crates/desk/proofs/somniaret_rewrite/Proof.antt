@@ -7,7 +7,7 @@ use Rattle.form.specs.declared.Body.{Body}
 use Rattle.form.specs.declared.Reading.{Reading}
 use Rattle.form.specs.Form.{judge, bodyOf, lay}
 use Rattle.form.specs.Answer.{accepted, written, heldAfter}
-use Rattle.desk.specs.Answer.{verdictAnswer, writtenAnswer}
+use Rattle.numbers.specs.Answer.{verdictAnswer, writtenAnswer}
 use borrow.Author.Needs.{needs}
 use Rattle.desk.proofs.somniaret_rewrite.Statement.{statement}
 use Rattle.desk.proofs.somniaret_rewrite.Tie as tie

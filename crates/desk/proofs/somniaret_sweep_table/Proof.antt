@@ -42,19 +42,19 @@ use Rattle.sweep_steps.proofs.SweepAnswer.Laws as S′
 use Rattle.sweep_steps.specs.declared.SweepAnswer.{SweepAnswer}
 use Rattle.sweep_steps.specs.Answer.{Values, outcomeOf, SweepOwed}
 use Rattle.entries.specs.declared.Entry.{Entry}
-use Rattle.desk.specs.declared.SweepNumbers.{SweepNumbers}
-use Rattle.desk.specs.Answer.{sweepValues, sweepSaid, sweptOutcome}
+use Rattle.numbers.specs.declared.SweepNumbers.{SweepNumbers}
+use Rattle.numbers.specs.Answer.{sweepValues, sweepSaid, sweptOutcome}
 use Rattle.entries.proofs.Entry as T
-use Rattle.desk.proofs.SweepNumbers as P
-use Rattle.desk.proofs.SweepNumbers.Laws as P′
+use Rattle.numbers.proofs.SweepNumbers as P
+use Rattle.numbers.proofs.SweepNumbers.Laws as P′
 use Rattle.sweep.proofs.sweep as the-sweep
 use Rattle.sweep.proofs.sweep.Symbol as sweep-def
 use Rattle.sweep.proofs.sweep.Symbol.{name as #sweep·sweep}
 use Rattle.sweep.proofs.sweep.Met as sweep-thm
-use Rattle.desk.proofs.of_sweep as the-numbers
-use Rattle.desk.proofs.of_sweep.Symbol as numbers-def
-use Rattle.desk.proofs.of_sweep.Symbol.{name as #desk·of-sweep}
-use Rattle.desk.proofs.of_sweep.Met as numbers-thm
+use Rattle.numbers.proofs.of_sweep as the-numbers
+use Rattle.numbers.proofs.of_sweep.Symbol as numbers-def
+use Rattle.numbers.proofs.of_sweep.Symbol.{name as #numbers·of-sweep}
+use Rattle.numbers.proofs.of_sweep.Met as numbers-thm
 use Rattle.desk.proofs.somniaret_sweep_table.Key.{name as #desk·somniaret-sweep-table}
 use Rattle.desk.proofs.somniaret_sweep_table as the-call
 use Rattle.desk.proofs.somniaret_sweep_table.Statement as stated
@@ -164,7 +164,7 @@ module _ {M : Type 1} (𝓤 : URA M) (H : Heap 𝓤) (A : Atoms 𝓤) (W : Given
 
   module _ (C : Calls 𝓤 H) (Λ : Loops 𝓤 H) (fm : FmC 𝓤 H (W .laws) C)
       (known-sweep : Triple 𝓤 (C #sweep·sweep) (Sweep 𝓤 H A mem run))
-      (known-numbers : Triple 𝓤 (C #desk·of-sweep) (Numbers 𝓤 H A mem run)) where
+      (known-numbers : Triple 𝓤 (C #numbers·of-sweep) (Numbers 𝓤 H A mem run)) where
     -- _0 the numbers; form, table, route; _4 the answer; a pointer and a slice each: _5, _6 the table, _7, _8 the route
     walk : ent 𝓤 (onEntry 𝓤 H A the-call.signature (κ₀, (κ₁, (κ₂, tt))) (q₀, (q₁, (q₂, tt))) a vals)
         (WpFn 𝓤 H C Λ code.function (s₀ ∷ s₁ ∷ s₂ ∷ []) Post)
@@ -237,7 +237,7 @@ module _ {M : Type 1} (𝓤 : URA M) (H : Heap 𝓤) (A : Atoms 𝓤) (W : Given
 module _ {M : Type 1} (𝓤 : URA M) (H : Heap 𝓤) (A : Atoms 𝓤) (W : Given 𝓤 H A) (mem : Memory → SProp 𝓤)
     (run : Routine → Fun 𝓤) (𝓣 : Tables 𝓤 H)
     (known-sweep : Triple 𝓤 (𝓣 .C #sweep·sweep) (Sweep 𝓤 H A mem run))
-    (known-numbers : Triple 𝓤 (𝓣 .C #desk·of-sweep) (Numbers 𝓤 H A mem run)) where
+    (known-numbers : Triple 𝓤 (𝓣 .C #numbers·of-sweep) (Numbers 𝓤 H A mem run)) where
   call-walks : Walks 𝓤 H A the-call.ended stayed (WpFn 𝓤 H (𝓣 .C) (𝓣 .Λ) code.function) (the-call.clauses 𝓤 H A mem run)
   call-walks = walked 𝓤 H A the-call.ended stayed (the-call.clauses 𝓤 H A mem run)
       (WpFn 𝓤 H (𝓣 .C) (𝓣 .Λ) code.function)
@@ -274,4 +274,4 @@ somniaret-sweep-table-spec 𝓤 H 𝓜 𝓖 𝓡 =
     (cited 𝓤 H (Sweep 𝓤 H (𝓖 .A) (𝓜 .mem) (𝓡 .run)) 𝓜 𝓡 code.env #sweep·sweep sweep-def.routine code.calls-sweep·sweep
     (sweep-thm.met 𝓤 H 𝓜 𝓖 𝓡))
     (cited 𝓤 H (Numbers 𝓤 H (𝓖 .A) (𝓜 .mem)
-    (𝓡 .run)) 𝓜 𝓡 code.env #desk·of-sweep numbers-def.routine code.calls-desk·of-sweep (numbers-thm.met 𝓤 H 𝓜 𝓖 𝓡)))
+    (𝓡 .run)) 𝓜 𝓡 code.env #numbers·of-sweep numbers-def.routine code.calls-numbers·of-sweep (numbers-thm.met 𝓤 H 𝓜 𝓖 𝓡)))

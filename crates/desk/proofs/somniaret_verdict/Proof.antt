@@ -1,6 +1,6 @@
 -- `desk::somniaret_verdict` meets its contract.
 use mathlib.Core.Path.{ap, _∙_}
-use Rattle.desk.specs.Answer.{verdictAnswer}
+use Rattle.numbers.specs.Answer.{verdictAnswer}
 use Rattle.desk.proofs.somniaret_verdict.Statement.{statement}
 use Rattle.desk.proofs.somniaret_verdict.Tie as tie
 

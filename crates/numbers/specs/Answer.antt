@@ -7,18 +7,19 @@ use Rattle.form.specs.declared.Verdict.{Verdict}
 use Rattle.form.specs.declared.Written.{Written}
 use Rattle.form.specs.Form.{when, judge, bodyOf, lay}
 use Rattle.form.specs.Answer.{accepted, numberOf, placeOf, writtenNumber, writtenPlace, written, heldAfter}
+use Rattle.counter.specs.declared.Counted.{Counted}
 use Rattle.counter.specs.Answer as Counter
 use Rattle.walk.specs.Answer as Walk
 use Rattle.entries.specs.declared.Entry.{Entry}
 use Rattle.sweep_steps.specs.Answer as Sweep
 use Rattle.sweep_steps.specs.declared.SweepAnswer.{SweepAnswer}
-use Rattle.desk.specs.declared.CountAnswer.{CountAnswer}
-use Rattle.desk.specs.declared.FormAnswer.{FormAnswer}
+use Rattle.numbers.specs.declared.CountAnswer.{CountAnswer}
+use Rattle.numbers.specs.declared.FormAnswer.{FormAnswer}
 use Rattle.listing.specs.declared.Listed.{Listed}
 use Rattle.listing.specs.Answer as Conflict
-use Rattle.desk.specs.declared.ListNumbers.{ListNumbers}
-use Rattle.desk.specs.declared.SweepNumbers.{SweepNumbers}
-use Rattle.desk.specs.declared.WalkNumbers.{WalkNumbers}
+use Rattle.numbers.specs.declared.ListNumbers.{ListNumbers}
+use Rattle.numbers.specs.declared.SweepNumbers.{SweepNumbers}
+use Rattle.numbers.specs.declared.WalkNumbers.{WalkNumbers}
 
 abbrev pub formAnswer : ℕ → ℕ → FormAnswer
 formAnswer number place = record { number = number; place = place }
@@ -41,6 +42,9 @@ rewriteHeld form out =
     when (accepted (judge form)) (heldAfter (written (bodyOf form) (length out)) (lay (bodyOf form)) out) out
 
 -- The counter's answer, as the counter's own definition has it
+abbrev pub countSaid : Counted → Counter.Values
+countSaid answer = Counter.said answer
+
 abbrev pub countValues : CountAnswer → Counter.Values
 countValues answer = record { number = answer .number; place = answer .place; iterations = answer .iterations }
 

@@ -1,7 +1,7 @@
--- `desk::of_listed` meets its contract, case by case.
+-- `numbers::of_listed` meets its contract, case by case.
 use borrow.Author.Needs.{needs}
-use Rattle.desk.proofs.of_listed.Statement.{statement}
-use Rattle.desk.proofs.of_listed.Tie as tie
+use Rattle.numbers.proofs.of_listed.Statement.{statement}
+use Rattle.numbers.proofs.of_listed.Tie as tie
 
 returns : tie.Need-returns
 returns c = rw (c .before .listed .given .1)

@@ -1,7 +1,7 @@
--- `desk::of_walk` meets its contract, case by case.
+-- `numbers::of_walk` meets its contract, case by case.
 use borrow.Author.Needs.{needs}
-use Rattle.desk.proofs.of_walk.Statement.{statement}
-use Rattle.desk.proofs.of_walk.Tie as tie
+use Rattle.numbers.proofs.of_walk.Statement.{statement}
+use Rattle.numbers.proofs.of_walk.Tie as tie
 
 returns : tie.Need-returns
 returns c = rw (c .walk-numbers .ensures, c .before .before .walk .given .1)

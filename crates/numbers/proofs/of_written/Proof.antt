@@ -1,7 +1,7 @@
--- `desk::of_written` meets its contract, case by case.
+-- `numbers::of_written` meets its contract, case by case.
 use borrow.Author.Needs.{needs}
-use Rattle.desk.proofs.of_written.Statement.{statement}
-use Rattle.desk.proofs.of_written.Tie as tie
+use Rattle.numbers.proofs.of_written.Statement.{statement}
+use Rattle.numbers.proofs.of_written.Tie as tie
 
 returns : tie.Need-returns
 returns c = rw (c .answer .ensures, c .before .before .written .given .1)

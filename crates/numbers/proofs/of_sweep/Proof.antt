@@ -1,7 +1,7 @@
--- `desk::of_sweep` meets its contract, case by case.
+-- `numbers::of_sweep` meets its contract, case by case.
 use borrow.Author.Needs.{needs}
-use Rattle.desk.proofs.of_sweep.Statement.{statement}
-use Rattle.desk.proofs.of_sweep.Tie as tie
+use Rattle.numbers.proofs.of_sweep.Statement.{statement}
+use Rattle.numbers.proofs.of_sweep.Tie as tie
 
 returns : tie.Need-returns
 returns c = rw (c .sweep-numbers .ensures, c .before .before .sweep .given .1)

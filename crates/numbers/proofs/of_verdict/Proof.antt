@@ -1,7 +1,7 @@
--- `desk::of_verdict` meets its contract, case by case.
+-- `numbers::of_verdict` meets its contract, case by case.
 use borrow.Author.Needs.{needs}
-use Rattle.desk.proofs.of_verdict.Statement.{statement}
-use Rattle.desk.proofs.of_verdict.Tie as tie
+use Rattle.numbers.proofs.of_verdict.Statement.{statement}
+use Rattle.numbers.proofs.of_verdict.Tie as tie
 
 returns : tie.Need-returns
 returns c = rw (c .answer .ensures, c .before .enum-told .given .1)

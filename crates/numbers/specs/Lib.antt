@@ -1,0 +1,2 @@
+-- The trusted definitions of the exported calls' answers (Answer).
+pub mod Answer
