@@ -1,4 +1,4 @@
--- `writer::counts_fit` meets its contract. The loop's invariant: the blocks' own effects, with what is left of the
+-- `layout::counts_fit` meets its contract. The loop's invariant: the blocks' own effects, with what is left of the
 -- total, are the total with the own effects of the blocks to come. The measure is the blocks to come.
 use mathlib.Core.Path.{_≡_, sym, _∙_}
 use Prim.Native.Nat.{suc, _+_, _≤_, _-_}
@@ -9,8 +9,8 @@ use lib.ListN.{getD, take, drop}
 use lib.Seq.{getD-take}
 use Rattle.form.specs.Form.{sumOwn, zeroBlock}
 use Rattle.form.specs.Laying.{over-blocks, over-effects, within-counts, sum-step, sum-end, lacks}
-use Rattle.writer.proofs.counts_fit.Statement.{statement}
-use Rattle.writer.proofs.counts_fit.Tie as tie
+use Rattle.layout.proofs.counts_fit.Statement.{statement}
+use Rattle.layout.proofs.counts_fit.Tie as tie
 
 abbrev Inv-loop : tie.InvT-loop
 Inv-loop count total blocks left₀ k₀ left k =

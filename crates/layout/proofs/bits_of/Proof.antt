@@ -1,4 +1,4 @@
--- `writer::bits_of` meets its contract, by the two's complement of 32 bits.
+-- `layout::bits_of` meets its contract, by the two's complement of 32 bits.
 use mathlib.Core.Path.{_≡_}
 use Prim.Native.Nat.{_≤_}
 use native.Mathlib.Omega.{arith}
@@ -7,8 +7,8 @@ use mir.Facts.{toZ-ofZ}
 use mir.Syntax.{w32}
 use mir.Val.{ofZ, toZ}
 use Rattle.laws.specs.Complement.{natural-bits, Complement, negative-bits}
-use Rattle.writer.proofs.bits_of.Statement.{statement}
-use Rattle.writer.proofs.bits_of.Tie as tie
+use Rattle.layout.proofs.bits_of.Statement.{statement}
+use Rattle.layout.proofs.bits_of.Tie as tie
 
 cast-result : tie.Need-cast-result
 cast-result c =

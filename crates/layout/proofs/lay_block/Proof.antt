@@ -1,11 +1,11 @@
--- `writer::lay_block` meets its contract: the record's bytes are pasted, then the effects are laid out after them.
+-- `layout::lay_block` meets its contract: the record's bytes are pasted, then the effects are laid out after them.
 use mathlib.Core.Path.{ap}
 use native.Mathlib.Omega.{arith}
 use lib.ListN.{length}
 use Rattle.form.specs.Laying.{block-laid}
 use borrow.Author.Needs.{needs}
-use Rattle.writer.proofs.lay_block.Statement.{statement}
-use Rattle.writer.proofs.lay_block.Tie as tie
+use Rattle.layout.proofs.lay_block.Statement.{statement}
+use Rattle.layout.proofs.lay_block.Tie as tie
 
 returns : tie.Need-returns
 returns c =

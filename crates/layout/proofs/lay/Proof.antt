@@ -1,4 +1,4 @@
--- `writer::lay` meets its contract. The loop's invariant: what is laid out so far, with the blocks to come, is the
+-- `layout::lay` meets its contract. The loop's invariant: what is laid out so far, with the blocks to come, is the
 -- whole; the effects used so far, with the own effects of the blocks to come, are all; and the place goes with both
 -- counts. The measure is the blocks to come.
 use mathlib.Core.List.{List, [], _++_}
@@ -12,8 +12,8 @@ use Rattle.form.specs.declared.Block.{Block}
 use Rattle.form.specs.declared.Body.{Body}
 use Rattle.form.specs.Form.{counterBytes, layBlocks, lay, sumOwn, zeroBlock}
 use Rattle.form.specs.Laying.{lay-more, sum-step, sum-end, blocks-laid, blocks-end, counts-known}
-use Rattle.writer.proofs.lay.Statement.{statement}
-use Rattle.writer.proofs.lay.Tie as tie
+use Rattle.layout.proofs.lay.Statement.{statement}
+use Rattle.layout.proofs.lay.Tie as tie
 
 abbrev Inv-loop : tie.InvT-loop
 Inv-loop buf₀ count blocks effects at₀ k₀ e₀ buf at k e =

@@ -1,4 +1,4 @@
--- `writer::lay_effects` meets its contract. The loop's invariant: up to `to` stand what stood before `at` and then the
+-- `layout::lay_effects` meets its contract. The loop's invariant: up to `to` stand what stood before `at` and then the
 -- first j effects. The measure is the effects to come.
 use mathlib.Core.List.{_++_, append-nil}
 use mathlib.Core.Path.{_≡_, sym, ap, _∙_}
@@ -9,8 +9,8 @@ use lib.ListN.{length, take, drop, length-drop}
 use lib.Seq.{getD-drop}
 use Rattle.form.specs.Form.{layEffects, effectBytes, zeroEffect}
 use Rattle.form.specs.Laying.{effects-laid, effects-none}
-use Rattle.writer.proofs.lay_effects.Statement.{statement}
-use Rattle.writer.proofs.lay_effects.Tie as tie
+use Rattle.layout.proofs.lay_effects.Statement.{statement}
+use Rattle.layout.proofs.lay_effects.Tie as tie
 
 abbrev Inv-loop : tie.InvT-loop
 Inv-loop buf₀ at from n effects to₀ j₀ buf to j =

@@ -1,9 +1,9 @@
--- `writer::effect_bytes` meets its contract.
+-- `layout::effect_bytes` meets its contract.
 use borrow.Author.Needs.{needs}
 use Rattle.laws.specs.Complement.{field-bits}
 use Rattle.form.specs.Form.{kindOf}
-use Rattle.writer.proofs.effect_bytes.Statement.{statement}
-use Rattle.writer.proofs.effect_bytes.Tie as tie
+use Rattle.layout.proofs.effect_bytes.Statement.{statement}
+use Rattle.layout.proofs.effect_bytes.Tie as tie
 
 returns : tie.Need-returns
 unfolding kindOf
