@@ -2,8 +2,7 @@
 // whatever bytes it was read from. What each function means is in form's Form.
 ghost use mathlib.Core.Path.{_≡_};
 ghost use Prim.Native.Nat.{_+_, _<_, _^_};
-ghost use Rattle.form.specs.Form.{stray};
-ghost use Rattle.form.specs.Form.{someTarget, badCounter, badBlock, badEffect, lowTarget, badEnd, farTarget};
+ghost use Rattle.form.specs.Form.{stray, someTarget, badCounter, badBlock, badEffect, lowTarget, badEnd, farTarget};
 ghost use Rattle.form.specs.Relation.{eqZ};
 ghost use lib.IntN.{pos};
 use form::Block;

@@ -2,8 +2,7 @@
 // function means is in form's Form and Answer.
 ghost use mathlib.Core.Path.{_≡_};
 ghost use Prim.Native.Nat.{_+_, _<_, _^_};
-ghost use Rattle.form.specs.Form.{recordsFrom};
-ghost use Rattle.form.specs.Form.{ownEffects, zeroBlock, zeroEffect, bodyOf, zeroBody};
+ghost use Rattle.form.specs.Form.{recordsFrom, ownEffects, zeroBlock, zeroEffect, bodyOf, zeroBody};
 ghost use Rattle.form.specs.Answer.{ReadAs};
 use form::Block;
 use form::Body;

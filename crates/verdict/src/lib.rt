@@ -4,8 +4,7 @@
 ghost use mathlib.Core.Path.{_≡_};
 ghost use Prim.Native.Nat.{_+_, _<_, _≤_, _^_};
 ghost use lib.ListN.{length};
-ghost use Rattle.form.specs.Form.{when, oneIf, recordsFrom};
-ghost use Rattle.form.specs.Form.{badField};
+ghost use Rattle.form.specs.Form.{when, oneIf, recordsFrom, badField};
 ghost use Rattle.form.specs.Form.{badTarget, outOfPlace, overLimit, payloadFault, recordFault, endFault, judgeEnds};
 ghost use Rattle.form.specs.Answer.{accepted, Judged};
 use form::Verdict;

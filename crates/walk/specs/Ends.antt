@@ -27,7 +27,7 @@ use Rattle.plan.specs.Prepared.PreparedOf.{refused as not-ready, ready}
 use Rattle.walk.specs.declared.WalkAnswer.{WalkAnswer}
 use Rattle.walk.specs.declared.WalkAnswer.the-variants.{Refused}
 use Rattle.walk.specs.Answer.{said, Outcome, refused, walkOutcome, WalkOwed}
-use Rattle.walk.specs.Terms.{soFar, tallied, foundIn, Searched}
+use Rattle.search.specs.Terms.{soFar, tallied, foundIn, Searched}
 
 -- ---- what is found
 

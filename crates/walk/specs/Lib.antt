@@ -1,5 +1,3 @@
--- The full walk. Trusted: Answer. The terms of its contracts, the laws of a turn, the ends.
+-- The full walk. Trusted: Answer. From what is found to the answer (Ends).
 pub mod Answer
-pub mod Terms
-pub mod Laws
 pub mod Ends

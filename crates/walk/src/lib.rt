@@ -1,171 +1,13 @@
-// The full walk: by recursion from block to block, jump before fall; an edge that makes a conflict is not taken. It
-// works on the plan of a body alone (theory's Plan). What its words and turns mean is in specs/Terms.antt. What goes
-// down the recursion is plain words, and the route kept stands in lent words: so a step is a few registers, and no
-// struct is copied down or back.
+// The full walk, for any bytes: from the plan, by the search over its words (crate search), to the answer. What is owed
+// is in specs/Answer.antt.
 ghost use mathlib.Core.Path.{_≡_};
-ghost use Prim.Native.Nat.{ℕ, _+_, _^_, _<_};
-ghost use Rattle.laws.specs.Terms.{bit, heavier};
+ghost use Prim.Native.Nat.{ℕ, _<_};
+ghost use Rattle.laws.specs.Terms.{heavier};
 ghost use Rattle.form.specs.declared.Body.{Body};
 ghost use Rattle.form.specs.Conflict.{Sound};
-ghost use Rattle.theory.specs.Walk.{keepFirst};
-ghost use Rattle.theory.specs.WalkWords.{advance};
-ghost use Rattle.theory.specs.Plan.{costAt, Planned, PlanOf};
-ghost use Rattle.walk.specs.Terms.{bannedAt, carriedAt, routeIn, foundIn, Standing, Entered, Barring, Walks};
-ghost use Rattle.walk.specs.Terms.{isOpen};
-ghost use Rattle.walk.specs.Terms.{Searched};
+ghost use Rattle.theory.specs.Plan.{Planned, PlanOf};
 ghost use Rattle.walk.specs.Answer.{said, walkOutcome, WalkOwed};
 ghost use Rattle.walk.specs.declared.WalkAnswer.the-variants.{Refused};
-use plan_words::Way;
-
-// The banned edges: those by jump or go, those by fall.
-struct Banned {
-    jumps: u64,
-    falls: u64,
-}
-
-// After the effects of block b: what they overwrite is no longer banned, what they deny is.
-fn enter(plan: &[u64; 1024], b: usize, at: Banned) -> Banned
-    requires { ⌜ b < 64 ⌝ }
-    ensures { λ r. ⌜ Entered (now (plan .entry)) b (bannedAt at) (bannedAt r) ⌝ }
-{
-    let touched = plan_words::touched(plan, b);
-    Banned {
-        jumps: words::either(
-            words::less(at.jumps, touched),
-            plan_words::denied(plan, b, 1),
-        ),
-        falls: words::either(
-            words::less(at.falls, touched),
-            plan_words::denied(plan, b, 2),
-        ),
-    }
-}
-
-// After block b is left by a way, 1 jump or go, 2 fall: what its edge conflicts with is banned.
-fn bar(plan: &[u64; 1024], b: usize, way: usize, at: Banned) -> Banned
-    requires { ⌜ (b < 64) × (way < 3) ⌝ }
-    ensures { λ r. ⌜ Barring (now (plan .entry)) b way (bannedAt at) (bannedAt r) ⌝ }
-{
-    Banned {
-        jumps: words::either(at.jumps, plan_words::against(plan, b, way, 1)),
-        falls: words::either(at.falls, plan_words::against(plan, b, way, 2)),
-    }
-}
-
-// The way so far, with block b left by a way; 0 where the path ends in it.
-fn step(plan: &[u64; 1024], b: usize, way: usize, at: Way) -> Way
-    requires { ⌜ (b < 64) × ((way < 3) × (at .weight + costAt (now plan) b way < 2 ^ 64)) ⌝ }
-    ensures { λ r. ⌜ carriedAt r ≡ advance (costAt (now (plan .entry))) (b, way) (carriedAt at) ⌝ }
-{
-    Way {
-        weight: at.weight + plan_words::cost(plan, b, way),
-        jumped: words::put(at.jumped, b, way == 1),
-        fallen: words::put(at.fallen, b, way == 2),
-    }
-}
-
-// A whole route is kept where it is the first, or heavier than the one kept.
-fn keep(way: Way, best: &mut [u64; 4])
-    ensures { λ _. ⌜ routeIn (now (best .exit)) ≡ keepFirst heavier (routeIn (now (best .entry))) (carriedAt way) ⌝ }
-{
-    if best[0] == 1 {
-        if way.weight <= best[1] {
-            return;
-        }
-    }
-    *best = [1, way.weight, way.jumped, way.fallen];
-}
-
-// Whether block b may be left by a way: there is one, its edge is not banned, and the budget is not passed.
-fn open(target: u64, banned: u64, b: usize, walked: u64, budget: u64) -> bool
-    requires { ⌜ b < 64 ⌝ }
-    ensures { λ r. ⌜ r ≡ isOpen target (bit banned b) walked budget ⌝ }
-{
-    ((target < 64) & !((banned >> b) % 2 == 1)) & !(budget < walked)
-}
-
-// All that is found from block b on, where these edges are banned, the way so far is this and so many beginnings are
-// walked: how many then; the first heaviest route, if there is any, is kept in the lent words.
-fn walk_from(
-    plan: &[u64; 1024],
-    count: usize,
-    budget: u64,
-    b: usize,
-    jumps: u64,
-    falls: u64,
-    weight: u64,
-    jumped: u64,
-    fallen: u64,
-    walked: u64,
-    best: &mut [u64; 4],
-) -> u64
-    requires { ⌜ Standing (now plan) count budget b weight walked ⌝ }
-    ensures { λ r. ⌜ Walks heavier (now (plan .entry)) count budget b (jumps, falls) (weight, (jumped, fallen))
-        (walked, now (best .entry)) (r, now (best .exit)) ⌝ }
-{
-    let here = enter(plan, b, Banned { jumps, falls });
-    let way = Way {
-        weight,
-        jumped,
-        fallen,
-    };
-    let mut seen = walked + 1;
-    if b + 1 == count {
-        keep(step(plan, b, 0, way), best);
-        return seen;
-    }
-    let jump = plan_words::target(plan, b, 1);
-    if open(jump, here.jumps, b, seen, budget) {
-        let next = bar(plan, b, 1, here);
-        let on = step(plan, b, 1, way);
-        seen = walk_from(
-            plan,
-            count,
-            budget,
-            jump as usize,
-            next.jumps,
-            next.falls,
-            on.weight,
-            on.jumped,
-            on.fallen,
-            seen,
-            best,
-        );
-    }
-    let fall = plan_words::target(plan, b, 2);
-    if open(fall, here.falls, b, seen, budget) {
-        let next = bar(plan, b, 2, here);
-        let on = step(plan, b, 2, way);
-        return walk_from(
-            plan,
-            count,
-            budget,
-            fall as usize,
-            next.jumps,
-            next.falls,
-            on.weight,
-            on.jumped,
-            on.fallen,
-            seen,
-            best,
-        );
-    }
-    seen
-}
-
-// All that is found from block 0 on: how many beginnings, and the words of the route.
-fn search(plan: &[u64; 1024], count: usize, budget: u64) -> [u64; 5]
-    requires { ⌜ PlanOf (now plan) count × (budget < 4294967296) ⌝ }
-    ensures { λ r. ⌜ Searched heavier (now (plan .entry)) count budget (foundIn r) ⌝ }
-{
-    let mut best = [0; 4];
-    let walked = walk_from(plan, count, budget, 0, 0, 0, 0, 0, 0, 0, &mut best);
-    let any = best[0];
-    let weight = best[1];
-    let jumped = best[2];
-    let fallen = best[3];
-    [walked, any, weight, jumped, fallen]
-}
 
 // The full walk's answer: the loop count, the weight of the first heaviest route, count times weight, and the number of
 // conflict-free beginnings; or the refusal's number and place.
@@ -204,7 +46,7 @@ fn walk_planned(
     if route.len() < count {
         return refuse(42, count);
     }
-    let found = search(plan, count, budget);
+    let found = search::search(plan, count, budget);
     let walked = found[0];
     if budget < walked {
         return refuse(41, budget as usize);

@@ -1,10 +1,10 @@
--- `walk::search` meets its contract: the theory's answer for the walk from block 0.
+-- `search::search` meets its contract: the theory's answer for the walk from block 0.
 use Rattle.laws.specs.Terms.{heavier}
 use Rattle.laws.specs.Orders.{heaviest}
-use Rattle.walk.specs.Laws.{standing-first, searched}
+use Rattle.search.specs.Laws.{standing-first, searched}
 use borrow.Author.Needs.{needs}
-use Rattle.walk.proofs.search.Statement.{statement}
-use Rattle.walk.proofs.search.Tie as tie
+use Rattle.search.proofs.search.Statement.{statement}
+use Rattle.search.proofs.search.Tie as tie
 
 walk-from-requires : tie.Need-walk-from-requires
 walk-from-requires c κs =

@@ -31,9 +31,9 @@ use Rattle.theory.specs.Main.{walk-answer}
 use Rattle.theory.specs.Range.{upTo, up-next, up-on}
 use Rattle.theory.specs.PlanWays.{by-way, by-jump, by-fall}
 use Rattle.theory.specs.Plan.{targetAt, costAt, IsWay, Planned, PlanOf}
-use Rattle.walk.specs.Terms.{Found, routeIn, soFar, tallied, Standing, Barred, Entered, Barring, walkFrom}
-use Rattle.walk.specs.Terms.{Walks, isOpen, Took, Searched}
-use Rattle.walk.specs.Terms.Took.{stays, goes}
+use Rattle.search.specs.Terms.{Found, routeIn, soFar, tallied, Standing, Barred, Entered, Barring, walkFrom}
+use Rattle.search.specs.Terms.{Walks, isOpen, Took, Searched}
+use Rattle.search.specs.Terms.Took.{stays, goes}
 
 -- ---- the two ways, and the two sides of a set of edges
 

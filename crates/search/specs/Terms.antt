@@ -20,7 +20,7 @@ use Rattle.theory.specs.WalkWords.{advance, finish}
 use Rattle.theory.specs.Range.{upTo}
 use Rattle.theory.specs.Plan.{targetAt, touchedAt, deniedAt, againstAt, costAt, IsWay, Planned, PlanOf}
 use Rattle.plan_words.specs.declared.Way.{Way}
-use Rattle.walk.specs.declared.Banned.{Banned}
+use Rattle.search.specs.declared.Banned.{Banned}
 
 -- ---- where the walk stands
 

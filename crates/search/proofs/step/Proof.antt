@@ -1,11 +1,11 @@
--- `walk::step` meets its contract.
+-- `search::step` meets its contract.
 use Prim.Native.Nat.{_+_}
 use native.Mathlib.Omega.{arith}
 use lib.Dec.{eqb}
-use Rattle.walk.specs.Laws.{put-is}
+use Rattle.search.specs.Laws.{put-is}
 use borrow.Author.Needs.{needs}
-use Rattle.walk.proofs.step.Statement.{statement}
-use Rattle.walk.proofs.step.Tie as tie
+use Rattle.search.proofs.step.Statement.{statement}
+use Rattle.search.proofs.step.Tie as tie
 
 returns : tie.Need-returns
 returns c =

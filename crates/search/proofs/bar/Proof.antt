@@ -1,14 +1,14 @@
--- `walk::bar` meets its contract.
+-- `search::bar` meets its contract.
 use mathlib.Core.Path.{ap, _∙_}
 use mathlib.Core.Bool.{_||_}
 use Prim.Native.Nat.{ℕ}
 use Rattle.laws.specs.Terms.{bit}
 use Rattle.theory.specs.Plan.{againstAt}
-use Rattle.walk.specs.Terms.{bannedAt}
-use Rattle.walk.specs.Laws.{by-sides}
+use Rattle.search.specs.Terms.{bannedAt}
+use Rattle.search.specs.Laws.{by-sides}
 use borrow.Author.Needs.{needs}
-use Rattle.walk.proofs.bar.Statement.{statement}
-use Rattle.walk.proofs.bar.Tie as tie
+use Rattle.search.proofs.bar.Statement.{statement}
+use Rattle.search.proofs.bar.Tie as tie
 
 returns : tie.Need-returns
 returns c =

@@ -17,23 +17,23 @@ use Rattle.theory.specs.Walk.{keepFirst, tally}
 use Rattle.theory.specs.SweepWords.{Words}
 use Rattle.theory.specs.WalkWords.{finish}
 use Rattle.theory.specs.Plan.{targetAt, costAt, IsWay}
-use Rattle.walk.specs.Terms.{Found, bannedAt, routeIn, soFar, tallied, isOpen, Standing, Walks, Took}
-use Rattle.walk.specs.Terms.Took.{stays}
+use Rattle.search.specs.Terms.{Found, bannedAt, routeIn, soFar, tallied, isOpen, Standing, Walks, Took}
+use Rattle.search.specs.Terms.Took.{stays}
 use Rattle.theory.specs.PlanWays.{by-jump, by-fall}
-use Rattle.walk.specs.Laws.{jump-edge, fall-edge, walks, open-is, took-goes, took-none}
-use Rattle.walk.specs.Laws.{visit-is}
-use Rattle.walk.specs.Laws.{costs-few, onward}
-use Rattle.walk.proofs.walk_from.Reads as walk-from
-use Rattle.walk.proofs.walk_from.Kinds as walk-from-kinds
-use Rattle.walk.proofs.+walk_from.Lts-walk_from as lts
+use Rattle.search.specs.Laws.{jump-edge, fall-edge, walks, open-is, took-goes, took-none}
+use Rattle.search.specs.Laws.{visit-is}
+use Rattle.search.specs.Laws.{costs-few, onward}
+use Rattle.search.proofs.walk_from.Reads as walk-from
+use Rattle.search.proofs.walk_from.Kinds as walk-from-kinds
+use Rattle.search.proofs.+walk_from.Lts-walk_from as lts
 use Rattle.plan_words.proofs.target.Reads as target-reads
-use Rattle.walk.proofs.bar.Reads as bar-reads
-use Rattle.walk.proofs.enter.Reads as enter-reads
-use Rattle.walk.proofs.open.Reads as open-reads
-use Rattle.walk.proofs.step.Reads as step-reads
-use Rattle.walk.proofs.keep.Reads as keep-reads
-use Rattle.walk.proofs.+walk_from.{statement}
-use Rattle.walk.proofs.+walk_from.Tie.{close}
+use Rattle.search.proofs.bar.Reads as bar-reads
+use Rattle.search.proofs.enter.Reads as enter-reads
+use Rattle.search.proofs.open.Reads as open-reads
+use Rattle.search.proofs.step.Reads as step-reads
+use Rattle.search.proofs.keep.Reads as keep-reads
+use Rattle.search.proofs.+walk_from.{statement}
+use Rattle.search.proofs.+walk_from.Tie.{close}
 
 abbrev μ-walk-from : Measures 2 walk-from-kinds.ps ℕ
 μ-walk-from κs a = a .1 .0 - a .1 .1 .1 .0

@@ -1,11 +1,11 @@
--- `walk::keep` meets its contract.
+-- `search::keep` meets its contract.
 use mathlib.Core.Logic.{⊎-elim}
 use native.Mathlib.Omega.{arith}
-use Rattle.walk.specs.Terms.{carriedAt}
-use Rattle.walk.specs.Laws.{kept-old, kept-new}
+use Rattle.search.specs.Terms.{carriedAt}
+use Rattle.search.specs.Laws.{kept-old, kept-new}
 use borrow.Author.Needs.{needs}
-use Rattle.walk.proofs.keep.Statement.{statement}
-use Rattle.walk.proofs.keep.Tie as tie
+use Rattle.search.proofs.keep.Statement.{statement}
+use Rattle.search.proofs.keep.Tie as tie
 
 returns : tie.Need-returns
 returns c =

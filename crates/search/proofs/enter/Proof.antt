@@ -1,14 +1,14 @@
--- `walk::enter` meets its contract.
+-- `search::enter` meets its contract.
 use mathlib.Core.Path.{ap, ap₂, _∙_}
 use mathlib.Core.Bool.{_&&_, _||_, not}
 use Prim.Native.Nat.{ℕ}
 use Rattle.laws.specs.Terms.{bit}
 use Rattle.theory.specs.Plan.{touchedAt, deniedAt}
-use Rattle.walk.specs.Terms.{bannedAt}
-use Rattle.walk.specs.Laws.{by-sides}
+use Rattle.search.specs.Terms.{bannedAt}
+use Rattle.search.specs.Laws.{by-sides}
 use borrow.Author.Needs.{needs}
-use Rattle.walk.proofs.enter.Statement.{statement}
-use Rattle.walk.proofs.enter.Tie as tie
+use Rattle.search.proofs.enter.Statement.{statement}
+use Rattle.search.proofs.enter.Tie as tie
 
 returns : tie.Need-returns
 returns c =

@@ -1,9 +1,9 @@
--- `walk::open` meets its contract.
+-- `search::open` meets its contract.
 use mathlib.Core.Path.{refl}
 use Rattle.laws.specs.Terms.{bit}
 use borrow.Author.Needs.{needs}
-use Rattle.walk.proofs.open.Statement.{statement}
-use Rattle.walk.proofs.open.Tie as tie
+use Rattle.search.proofs.open.Statement.{statement}
+use Rattle.search.proofs.open.Tie as tie
 
 returns : tie.Need-returns
 unfolding bit
