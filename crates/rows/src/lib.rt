@@ -1,5 +1,6 @@
-// Rows of entries in local memory, as numbers: an entry put in where its key belongs, a step in front of a tail, and the row of a block made of its targets' rows. Only
-// `entry_at` and `put_entry` know how an entry lies in a row's words.
+// Rows of entries in local memory, as numbers: an entry put in where its key belongs, a step in front of a tail, and
+// the row of a block made of its targets' rows. Only `entry_at` and `put_entry` know how an entry lies in a row's
+// words.
 ghost use mathlib.Core.Path.{_≡_};
 ghost use mathlib.Core.Bool.{cond, _&&_};
 ghost use Prim.Native.Nat.{suc, _+_, _*_, _^_, _<_, _≤_};
@@ -68,7 +69,8 @@ fn before(jumps: u64, falls: u64, jumps2: u64, falls2: u64) -> bool
     falls < falls2
 }
 
-// Whether the first tail is better: heavier, or as heavy and first. The lowest block in which their 'left by jump' sets differ tells which is first.
+// Whether the first tail is better: heavier, or as heavy and first. The lowest block in which their 'left by jump' sets
+// differ tells which is first.
 fn better(one: Way, other: Way) -> bool
     ensures { λ r. ⌜ r ≡ next (heavier (one .weight) (other .weight)) (heavier (other .weight) (one .weight)) (earlier 64 (one .jumped) (other .jumped)) ⌝ }
 {
@@ -145,7 +147,8 @@ fn squeeze_in(row: &mut [u64], held: usize, p: usize, e: Entry)
     put_entry(row, p, e);
 }
 
-// One entry more in an ascending row, one for each key, the better one; how many are held then. The 65th key is counted, and not put in.
+// One entry more in an ascending row, one for each key, the better one; how many are held then. The 65th key is
+// counted, and not put in.
 fn insert(row: &mut [u64], held: usize, e: Entry) -> usize
     requires { ⌜ (length (now row) ≡ 320) × (held ≤ 64) ⌝ }
     ensures { λ r. ⌜ Grown (inserted (tupleOf e) (entriesFrom (now (row .entry)) 0 held)) (now (row .entry)) (now (row .exit)) r ⌝ }
@@ -162,8 +165,9 @@ fn insert(row: &mut [u64], held: usize, e: Entry) -> usize
     65
 }
 
-// One side of a step in front of tails, which leaves a block by a way: of the jump edges, or of the fall edges, those that it conflicts with, those that the
-// block's effects deny, its own where the block tests, those that stay open; and its block, where it is left by this side's way.
+// One side of a step in front of tails, which leaves a block by a way: of the jump edges, or of the fall edges, those
+// that it conflicts with, those that the block's effects deny, its own where the block tests, those that stay open; and
+// its block, where it is left by this side's way.
 struct Side {
     against: u64,
     denied: u64,
@@ -259,7 +263,8 @@ fn tail_of(first: &[u64], second: &[u64], way: usize, i: usize) -> Entry
     entry_at(second, i)
 }
 
-// The tails of b into its row, by each way those of the target's row, until the 65th set appears; how many are held then.
+// The tails of b into its row, by each way those of the target's row, until the 65th set appears; how many are held
+// then.
 pub fn build(
     plan: &[u64],
     b: usize,
@@ -294,7 +299,8 @@ pub fn build(
     held
 }
 
-// The row begins empty, but for the last block's, which has its own entry: no edge, its cost and no block that is left. How many are held.
+// The row begins empty, but for the last block's, which has its own entry: no edge, its cost and no block that is left.
+// How many are held.
 pub fn begin(plan: &[u64], b: usize, count: usize, row: &mut [u64]) -> usize
     requires { ⌜ (length (now plan) ≡ 1024) × ((b < 64) × (now row ≡ zeroRow)) ⌝ }
     ensures { λ r. ⌜ Holds (begunWith (now (plan .entry)) count b) (now (row .exit)) r ⌝ }
