@@ -24,8 +24,11 @@ abbrev pub said : Counted → Values
 said (Iterations k) = count k
 said (Refused number place) = refusal number place
 
--- a relation above 5 is refused with 15 at place 0; else the answer is the count, or 20 at place 0 where no count exists
+-- a relation above 5 is refused with 15 at place 0; else the answer is the count, or 20 at place 0 where no count
+-- exists
 pub data Owed (initial step : ℤ) (relation : ℕ) (limit : ℤ) (answer : Values) : Type 0 where
   no-relation : 5 < relation → answer ≡ refusal 15 0 → Owed initial step relation limit answer
-  no-count : relation ≤ 5 → ((k : ℕ) → Count initial step relation limit k → ⊥) → answer ≡ refusal 20 0 → Owed initial step relation limit answer
-  counted : relation ≤ 5 → (k : ℕ) → Count initial step relation limit k → answer ≡ count k → Owed initial step relation limit answer
+  no-count : relation ≤ 5 → ((k : ℕ) → Count initial step relation limit k → ⊥) → answer ≡ refusal 20 0
+      → Owed initial step relation limit answer
+  counted : relation ≤ 5 → (k : ℕ) → Count initial step relation limit k → answer ≡ count k
+      → Owed initial step relation limit answer

@@ -23,7 +23,8 @@ pub record Question : Type 0 where
   pub count : ℕ
 
 abbrev asked : ℤ → ℤ → ℕ → ℤ → ℕ → Question
-asked initial step relation limit count = record { initial = initial; step = step; relation = relation; limit = limit; count = count }
+asked initial step relation limit count =
+    record { initial = initial; step = step; relation = relation; limit = limit; count = count }
 
 abbrev pub questions : List Question
 questions =

@@ -1,5 +1,5 @@
-// The counter of document 01: how often the body of a counted loop runs, in closed form. Numbers of 32 bits are worked on at
-// 64, where a difference of two, a negation and one more step still fit.
+// The counter of document 01: how often the body of a counted loop runs, in closed form. Numbers of 32 bits are worked
+// on at 64, where a difference of two, a negation and one more step still fit.
 ghost use mathlib.Core.Path.{_≡_};
 ghost use Prim.Native.Nat.{_/_, _%_, _<_};
 ghost use lib.Dec.{eqb};

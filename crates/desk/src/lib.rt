@@ -1,6 +1,6 @@
 // The calls of the training tool, which is written in C: the static library. Thin: each call hands its bytes to the
-// layers below and returns their numbers by value (crate numbers), so that a refusal writes to no lent memory. A part of
-// no bytes may have any pointer.
+// layers below and returns their numbers by value (crate numbers), so that a refusal writes to no lent memory. A part
+// of no bytes may have any pointer.
 ghost use mathlib.Core.Path.{_≡_};
 ghost use lib.ListN.{length};
 ghost use Rattle.laws.specs.Terms.{digit};
@@ -69,7 +69,8 @@ pub extern "C" fn somniaret_conflicts(bytes: &[u8], out: &mut [u8]) -> ListNumbe
     numbers::of_listed(listing::conflicts(bytes, out))
 }
 
-// The full walk of a form with a budget: its numbers, and the route's bytes in the lent ones; or a refusal, which changes none.
+// The full walk of a form with a budget: its numbers, and the route's bytes in the lent ones; or a refusal, which
+// changes none.
 #[no_mangle]
 pub extern "C" fn somniaret_walk(bytes: &[u8], budget: u32, route: &mut [u8]) -> WalkNumbers
     ensures { λ r. ⌜ WalkOwed (now (bytes .entry)) budget (now (route .entry)) (walkValues r, now (route .exit)) ⌝ }
@@ -77,7 +78,8 @@ pub extern "C" fn somniaret_walk(bytes: &[u8], budget: u32, route: &mut [u8]) ->
     numbers::of_walk(walk::walk(bytes, budget, route))
 }
 
-// The sweep of a form over a lent table of entries: its numbers, the rows in the table, and the route's bytes in the lent ones.
+// The sweep of a form over a lent table of entries: its numbers, the rows in the table, and the route's bytes in the
+// lent ones.
 #[no_mangle]
 pub extern "C" fn somniaret_sweep_table(
     bytes: &[u8],

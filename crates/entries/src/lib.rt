@@ -65,7 +65,8 @@ fn before(jumps: u64, falls: u64, jumps2: u64, falls2: u64) -> bool
     falls < falls2
 }
 
-// Whether the first tail is better: heavier, or as heavy and first. The lowest block in which their 'left by jump' sets differ tells which is first.
+// Whether the first tail is better: heavier, or as heavy and first. The lowest block in which their 'left by jump' sets
+// differ tells which is first.
 fn better(one: Way, other: Way) -> bool
     ensures { λ r. ⌜ r ≡ next (heavier (one .weight) (other .weight)) (heavier (other .weight) (one .weight)) (earlier 64 (one .jumped) (other .jumped)) ⌝ }
 {
@@ -142,7 +143,8 @@ fn squeeze_in(row: &mut [u64], held: usize, p: usize, e: Entry)
     put_entry(row, p, e);
 }
 
-// One entry more in an ascending row, one for each key, the better one; how many are held then. The 65th key is counted, and not put in.
+// One entry more in an ascending row, one for each key, the better one; how many are held then. The 65th key is
+// counted, and not put in.
 pub fn insert(row: &mut [u64], held: usize, e: Entry) -> usize
     requires { ⌜ (length (now row) ≡ 320) × (held ≤ 64) ⌝ }
     ensures { λ r. ⌜ Grown (inserted (tupleOf e) (entriesFrom (now (row .entry)) 0 held)) (now (row .entry)) (now (row .exit)) r ⌝ }

@@ -1,7 +1,8 @@
--- Conflicts, after document 01, 'Conflicts and routes': the blocks, effects and edges of a body, conditions, clean paths and the conflict list.
--- Trusted: definitions only. Rests on Relation (when a number meets a relation), on Form's zeroBlock and on the laws' Terms.
--- Two tests stand beside the statement that they decide (`contradict` and Contradict, `clean` and Clean). The crate lower_laws proves that they say the same
--- (Conditions, ConflictList), and that the list holds exactly what Holds says, in order.
+-- Conflicts, after document 01, 'Conflicts and routes': the blocks, effects and edges of a body, conditions, clean
+-- paths and the conflict list. Trusted: definitions only. Rests on Relation (when a number meets a relation), on Form's
+-- zeroBlock and on the laws' Terms. Two tests stand beside the statement that they decide (`contradict` and Contradict,
+-- `clean` and Clean). The crate lower_laws proves that they say the same (Conditions, ConflictList), and that the list
+-- holds exactly what Holds says, in order.
 use mathlib.Core.Path.{_≡_}
 use mathlib.Core.Logic.{_⊎_}
 use mathlib.Core.Bool.{Bool, true, false, not, cond, _||_, _&&_}
@@ -82,7 +83,8 @@ pub record Sound (body : Body) : Type 0 where
   pub some : 0 < body .count
   pub few : body .count ≤ 64
   pub onward : Onward body
-  pub going : (b : ℕ) → suc b < body .count → (o : ℕ × ℕ) × Mem o (exits body b)  -- every block but the last has an exit
+  pub going : (b : ℕ) → suc b < body .count
+      → (o : ℕ × ℕ) × Mem o (exits body b)  -- every block but the last has an exit
   pub known : (b : ℕ) → block body b .relation ≤ 5
   pub fits : (b : ℕ) (a : Effect) → Mem a (effectsOf body b) → SFits w32 (a .constant)
 
@@ -115,7 +117,8 @@ pub record Contradict (c d : Condition) : Type 0 where
 
 -- The test of it tries the whole numbers within 1 of the two constants.
 abbrev pub metAbout : Condition → Condition → ℤ → Bool
-metAbout c d x = met c (x -ℤ pos 1) && met d (x -ℤ pos 1) || met c x && met d x || met c (x +ℤ pos 1) && met d (x +ℤ pos 1)
+metAbout c d x =
+    met c (x -ℤ pos 1) && met d (x -ℤ pos 1) || met c x && met d x || met c (x +ℤ pos 1) && met d (x +ℤ pos 1)
 
 unfoldable pub contradict : Condition → Condition → Bool
 contradict c d = eqb (c .variable) (d .variable) && not (metAbout c d (c .constant) || metAbout c d (d .constant))
@@ -131,14 +134,16 @@ refuses (some a) c = eqb (a .how) 1 && not (met c (a .constant))
 
 -- Block b's last effect on e's variable is a constant that conflicts with the edge e.
 unfoldable pub denies : Body → ℕ → Edge → Bool
-denies body b e = isTest body (e .0) && refuses (lastOn (condition body e .variable) (effectsOf body b)) (condition body e)
+denies body b e =
+    isTest body (e .0) && refuses (lastOn (condition body e .variable) (effectsOf body b)) (condition body e)
 
 -- ---- the conflict list
 
 -- A path of the graph from b to s; no block of it, b and s included, has an effect on v.
 pub data Clean (body : Body) (v : ℕ) : ℕ → ℕ → Type 0 where
   here : {b : ℕ} → touches body b v ≡ false → Clean body v b b
-  onward : {b s : ℕ} (o : ℕ × ℕ) → touches body b v ≡ false → Mem o (exits body b) → Clean body v (o .1) s → Clean body v b s
+  onward : {b s : ℕ} (o : ℕ × ℕ) → touches body b v ≡ false → Mem o (exits body b) → Clean body v (o .1) s
+      → Clean body v b s
 
 -- The test of it, for a path of at most n blocks.
 unfoldable pub clean : Body → ℕ → ℕ → ℕ → ℕ → Bool
@@ -170,7 +175,8 @@ unfoldable pub crossed : Body → ℕ → ℕ × ℕ → Edge → Bool
 crossed body b o e = opposes body (b, o .0) e && leads body o e
 
 abbrev pub assignmentPair : Body → Edge → ℕ → Pair
-assignmentPair body e b = record { kind = 1; first = b; third = condition body e .variable; second = e .0; outcome = e .1 }
+assignmentPair body e b =
+    record { kind = 1; first = b; third = condition body e .variable; second = e .0; outcome = e .1 }
 
 abbrev pub edgePair : Edge → ℕ → ℕ × ℕ → Pair
 edgePair e b o = record { kind = 2; first = b; third = o .0; second = e .0; outcome = e .1 }

@@ -31,7 +31,8 @@ renumbered equal unequal less atLeast greater atMost (suc (suc zero)) = less
 renumbered equal unequal less atLeast greater atMost (suc (suc (suc zero))) = atLeast
 renumbered equal unequal less atLeast greater atMost (suc (suc (suc (suc zero)))) = greater
 renumbered equal unequal less atLeast greater atMost (suc (suc (suc (suc (suc zero))))) = atMost
-renumbered equal unequal less atLeast greater atMost (suc (suc (suc (suc (suc (suc above)))))) = suc (suc (suc (suc (suc (suc above)))))
+renumbered equal unequal less atLeast greater atMost (suc (suc (suc (suc (suc (suc above)))))) =
+    suc (suc (suc (suc (suc (suc above)))))
 
 -- the relation that holds exactly where this one fails: = and ≠, < and ≥, > and ≤
 abbrev pub opposite : ℕ → ℕ

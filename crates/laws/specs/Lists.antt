@@ -1,5 +1,5 @@
--- The laws of lists: membership in `++`, `only`, `each`, `map`, `anyOf` and `range`, and of lists in which each entry stands before the later ones.
--- Rests on Terms and Tests.
+-- The laws of lists: membership in `++`, `only`, `each`, `map`, `anyOf` and `range`, and of lists in which each entry
+-- stands before the later ones. Rests on Terms and Tests.
 use mathlib.Core.Path.{_≡_, refl, sym, ap, _∙_}
 use mathlib.Core.Logic.{_⊎_, inl, inr}
 use mathlib.Core.Bool.{Bool, true, false, cond}
@@ -42,7 +42,8 @@ module _ {A : Type 0} where
   cut (x ∷ l) e (inl p) = ([], l, rw p)
   cut (x ∷ l) e (inr m) = let (a, b, q) = cut l e m in (x ∷ a, b, ap (λ t. x ∷ t) q)
 
-  only-go : (f : A → Bool) (x y : A) (l : List A) (c : Bool) → f y ≡ c → (Mem x (only f l) → (f x ≡ true) × Mem x l) → Mem x (cond c (y ∷ only f l) (only f l)) → (f x ≡ true) × Mem x (y ∷ l)
+  only-go : (f : A → Bool) (x y : A) (l : List A) (c : Bool) → f y ≡ c → (Mem x (only f l) → (f x ≡ true) × Mem x l)
+      → Mem x (cond c (y ∷ only f l) (only f l)) → (f x ≡ true) × Mem x (y ∷ l)
   only-go f x y l true h g (inl e) = (rw e h, inl e)
   only-go f x y l true h g (inr m) = (g m .0, inr (g m .1))
   only-go f x y l false h g m = (g m .0, inr (g m .1))
@@ -63,13 +64,15 @@ module _ {A : Type 0} where
   only-append f [] r = refl
   only-append f (x ∷ l) r = go (f x) (only-append f l r)
     where
-      go : (c : Bool) → only f (l ++ r) ≡ only f l ++ only f r → cond c (x ∷ only f (l ++ r)) (only f (l ++ r)) ≡ cond c (x ∷ only f l) (only f l) ++ only f r
+      go : (c : Bool) → only f (l ++ r) ≡ only f l ++ only f r
+          → cond c (x ∷ only f (l ++ r)) (only f (l ++ r)) ≡ cond c (x ∷ only f l) (only f l) ++ only f r
       go true h = ap (λ t. x ∷ t) h
       go false h = h
 
   pub anyOf-out : (f : A → Bool) (l : List A) → anyOf f l ≡ true → (x : A) × Mem x l × (f x ≡ true)
   anyOf-out f [] h = clash h refl
-  anyOf-out f (y ∷ l) h = or-out (f y) _ h (λ k. (y, inl refl, k)) (λ k. let (x, m, e) = anyOf-out f l k in (x, inr m, e))
+  anyOf-out f (y ∷ l) h =
+      or-out (f y) _ h (λ k. (y, inl refl, k)) (λ k. let (x, m, e) = anyOf-out f l k in (x, inr m, e))
 
   pub anyOf-in : (f : A → Bool) (l : List A) (x : A) → Mem x l → f x ≡ true → anyOf f l ≡ true
   anyOf-in f (y ∷ l) x (inl e) h = or-in-left _ (sym (ap f e) ∙ h)
@@ -80,7 +83,8 @@ module _ {A B : Type 0} where
   each-out [] f y m = absurd m
   each-out (x ∷ l) f y m = go (each-out l f y) (mem-append y (f x) (each l f) m)
     where
-      go : (Mem y (each l f) → (x : A) × Mem x l × Mem y (f x)) → Mem y (f x) ⊎ Mem y (each l f) → (z : A) × Mem z (x ∷ l) × Mem y (f z)
+      go : (Mem y (each l f) → (x : A) × Mem x l × Mem y (f x)) → Mem y (f x) ⊎ Mem y (each l f)
+          → (z : A) × Mem z (x ∷ l) × Mem y (f z)
       go h (inl n) = (x, inl refl, n)
       go h (inr n) = let (z, k, q) = h n in (z, inr k, q)
 
@@ -114,7 +118,8 @@ module _ {A : Type 0} where
   only-swap f g [] = refl
   only-swap f g (x ∷ l) = go (f x) (g x) refl refl (only-swap f g l)
     where
-      go : (a b : Bool) → f x ≡ a → g x ≡ b → only f (only g l) ≡ only g (only f l) → only f (cond b (x ∷ only g l) (only g l)) ≡ only g (cond a (x ∷ only f l) (only f l))
+      go : (a b : Bool) → f x ≡ a → g x ≡ b → only f (only g l) ≡ only g (only f l)
+          → only f (cond b (x ∷ only g l) (only g l)) ≡ only g (cond a (x ∷ only f l) (only f l))
       go true true p q h = rw (p, q) (ap (λ t. x ∷ t) h)
       go true false p q h = rw q h
       go false true p q h = rw p h
@@ -125,7 +130,9 @@ module _ {A B : Type 0} where
   only-map f g [] = refl
   only-map f g (x ∷ l) = go (f (g x)) (only-map f g l)
     where
-      go : (c : Bool) → only f (map g l) ≡ map g (only (λ x. f (g x)) l) → cond c (g x ∷ only f (map g l)) (only f (map g l)) ≡ map g (cond c (x ∷ only (λ x. f (g x)) l) (only (λ x. f (g x)) l))
+      go : (c : Bool) → only f (map g l) ≡ map g (only (λ x. f (g x)) l)
+          → cond c (g x ∷ only f (map g l)) (only f (map g l))
+          ≡ map g (cond c (x ∷ only (λ x. f (g x)) l) (only (λ x. f (g x)) l))
       go true h = ap (λ t. g x ∷ t) h
       go false h = h
 
@@ -149,7 +156,8 @@ range-out a (suc n) x (inr m) = let h = range-out (suc a) n x m in (omega arith,
 
 pub range-in : (a n x : ℕ) → a ≤ x → x < a + n → Mem x (range a n)
 range-in a zero x h k = let z : ⊥ = omega arith in absurd z
-range-in a (suc n) x h k = split (eqb x a) (λ e. inl (eqb-true x a e)) (λ e. let d = eqb-false x a e in inr (range-in (suc a) n x (omega arith) (omega arith)))
+range-in a (suc n) x h k = split (eqb x a) (λ e. inl (eqb-true x a e))
+    (λ e. let d = eqb-false x a e in inr (range-in (suc a) n x (omega arith) (omega arith)))
 
 -- ---- sorted lists
 
@@ -158,9 +166,11 @@ range-sorted a zero = tt
 range-sorted a (suc n) = (λ y m. lt-ltb a y (omega (arith, range-out (suc a) n y m)), range-sorted (suc a) n)
 
 module _ {A : Type 0} (bf : A → A → Bool) where
-  pub sorted-append : (l r : List A) → Sorted bf l → Sorted bf r → ((x y : A) → Mem x l → Mem y r → bf x y ≡ true) → Sorted bf (l ++ r)
+  pub sorted-append : (l r : List A) → Sorted bf l → Sorted bf r → ((x y : A) → Mem x l → Mem y r → bf x y ≡ true)
+      → Sorted bf (l ++ r)
   sorted-append [] r h g c = g
-  sorted-append (x ∷ l) r h g c = (λ y m. up y (mem-append y l r m), sorted-append l r (h .1) g (λ z y m n. c z y (inr m) n))
+  sorted-append (x ∷ l) r h g c =
+      (λ y m. up y (mem-append y l r m), sorted-append l r (h .1) g (λ z y m n. c z y (inr m) n))
     where
       up : (y : A) → Mem y l ⊎ Mem y r → bf x y ≡ true
       up y (inl m) = h .0 y m
@@ -174,7 +184,8 @@ module _ {A : Type 0} (bf : A → A → Bool) where
   sorted-after [] b e x h m = h .0 x m
   sorted-after (y ∷ a) b e x h m = sorted-after a b e x (h .1) m
 
-  pub sorted-each : {I : Type 0} (lt : I → I → Bool) (l : List I) (f : I → List A) → Sorted lt l → ((i : I) → Mem i l → Sorted bf (f i))
+  pub sorted-each : {I : Type 0} (lt : I → I → Bool) (l : List I) (f : I → List A) → Sorted lt l
+      → ((i : I) → Mem i l → Sorted bf (f i))
       → ((i j : I) (x y : A) → lt i j ≡ true → Mem x (f i) → Mem y (f j) → bf x y ≡ true) → Sorted bf (each l f)
   sorted-each lt [] f s h c = tt
   sorted-each lt (i ∷ l) f s h c =

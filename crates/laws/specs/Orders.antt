@@ -1,5 +1,5 @@
--- Strict total orders as Bool tests: pairs, lists of numbers at the first place where they part, and the choice between weights (heavier, lighter).
--- Rests on Terms and Tests.
+-- Strict total orders as Bool tests: pairs, lists of numbers at the first place where they part, and the choice between
+-- weights (heavier, lighter). Rests on Terms and Tests.
 use mathlib.Core.Path.{_≡_, refl, _∙_}
 use mathlib.Core.Logic.{_⊎_, inl, inr}
 use mathlib.Core.Bool.{Bool, true, false}
@@ -52,13 +52,15 @@ module _ {A : Type 0} {lt : A → A → Bool} (o : Order lt) where
   next-same a x = rw (o .irr a)
 
   next-trans : (a b c : A) (x y z : Bool) → (x ≡ true → y ≡ true → z ≡ true)
-      → (lt a b ≡ true) ⊎ ((a ≡ b) × (x ≡ true)) → (lt b c ≡ true) ⊎ ((b ≡ c) × (y ≡ true)) → next (lt a c) (lt c a) z ≡ true
+      → (lt a b ≡ true) ⊎ ((a ≡ b) × (x ≡ true)) → (lt b c ≡ true) ⊎ ((b ≡ c) × (y ≡ true))
+      → next (lt a c) (lt c a) z ≡ true
   next-trans a b c x y z f (inl p) (inl q) = next-first a c z (o .trans a b c p q)
   next-trans a b c x y z f (inl p) (inr q) = next-first a c z (rw (q .0) at p)
   next-trans a b c x y z f (inr p) (inl q) = next-first a c z (rw (p .0) q)
   next-trans a b c x y z f (inr p) (inr q) = rw (p .0, q .0, next-same c z) (f (p .1) (q .1))
 
-  next-tri : (a b : A) (x y : Bool) → next (lt a b) (lt b a) x ≡ false → next (lt b a) (lt a b) y ≡ false → (a ≡ b) × (x ≡ false) × (y ≡ false)
+  next-tri : (a b : A) (x y : Bool) → next (lt a b) (lt b a) x ≡ false → next (lt b a) (lt a b) y ≡ false
+      → (a ≡ b) × (x ≡ false) × (y ≡ false)
   next-tri a b x y p q =
       split (lt a b) (λ e. clash (next-first a b x e) p) λ e. split (lt b a) (λ f. clash (next-first b a y f) q) λ f.
       (o .tri a b e f, rw (e, f) at p, rw (e, f) at q)
@@ -67,7 +69,8 @@ module _ {A B : Type 0} (lt : A → A → Bool) (mt : B → B → Bool) where
   pub pair-order : Order lt → Order mt → Order (pairb lt mt)
   pair-order o w = record {
     irr = λ p. next-same o (p .0) _ ∙ w .irr (p .1);
-    trans = λ p q r h k. next-trans o (p .0) (q .0) (r .0) _ _ _ (w .trans (p .1) (q .1) (r .1)) (next-cases o _ _ _ h) (next-cases o _ _ _ k);
+    trans = λ p q r h k. next-trans o (p .0) (q .0) (r .0) _ _ _ (w .trans (p .1) (q .1) (r .1)) (next-cases o _ _ _ h)
+        (next-cases o _ _ _ k);
     tri = λ p q h k. let t = next-tri o (p .0) (q .0) _ _ h k in λ i. (t .0 i, w .tri (p .1) (q .1) (t .1) (t .2) i);
   }
 

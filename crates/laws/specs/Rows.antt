@@ -1,6 +1,7 @@
--- Rows: lists of keyed values with ascending keys, built by insertion that keeps the better value of a key. `Covers l r` says that r has only entries of l and,
--- for each entry of l, one of its key that is as good; an ascending list that covers l is the only one (`row-unique`). A step in front of each entry
--- (`ext`) keeps it. Rests on Orders and Lists.
+-- Rows: lists of keyed values with ascending keys, built by insertion that keeps the better value of a key.
+-- `Covers l r` says that r has only entries of l and, for each entry of l, one of its key that is as good; an ascending
+-- list that covers l is the only one (`row-unique`). A step in front of each entry (`ext`) keeps it. Rests on Orders
+-- and Lists.
 use mathlib.Core.Path.{_≡_, refl, sym, ap, _∙_, subst}
 use mathlib.Core.Logic.{_⊎_, inl, inr}
 use mathlib.Core.Bool.{Bool, true, false, cond}
@@ -61,7 +62,8 @@ module _ {K B : Type 0} (lt : K → K → Bool) (bt : B → B → Bool) where
     }
 
     pub covers-append : (l r l′ r′ : List (K × B)) → Covers bt l r → Covers bt l′ r′ → Covers bt (l ++ l′) (r ++ r′)
-    covers-append l r l′ r′ p q = record { from = λ e m. fr e (mem-append e r r′ m); best = λ e m. bs e (mem-append e l l′ m) }
+    covers-append l r l′ r′ p q =
+        record { from = λ e m. fr e (mem-append e r r′ m); best = λ e m. bs e (mem-append e l l′ m) }
       where
         fr : (e : K × B) → Mem e r ⊎ Mem e r′ → Mem e (l ++ l′)
         fr e (inl m) = mem-left e l l′ (p .from e m)
@@ -85,12 +87,14 @@ module _ {K B : Type 0} (lt : K → K → Bool) (bt : B → B → Bool) where
         bs y (inl p) = (x, inl refl, rw p d)
         bs y (inr m) = (y, m, dom-refl y)
 
-    covers-keep : (b : Bool) (e x : K × B) (r : List (K × B)) → bt (e .1) (x .1) ≡ b → e .0 ≡ x .0 → Covers bt (e ∷ x ∷ r) (cond b e x ∷ r)
+    covers-keep : (b : Bool) (e x : K × B) (r : List (K × B)) → bt (e .1) (x .1) ≡ b → e .0 ≡ x .0
+        → Covers bt (e ∷ x ∷ r) (cond b e x ∷ r)
     covers-keep true e x r p k =
         covers-trans _ _ _ (covers-swap e x r) (covers-drop x e r (record { key = k; good = asym oB _ _ p }))
     covers-keep false e x r p k = covers-drop e x r (record { key = sym k; good = p })
 
-    covers-place : (a b : Bool) (e x : K × B) (r i : List (K × B)) → lt (e .0) (x .0) ≡ a → lt (x .0) (e .0) ≡ b → Covers bt (e ∷ r) i
+    covers-place : (a b : Bool) (e x : K × B) (r i : List (K × B)) → lt (e .0) (x .0) ≡ a → lt (x .0) (e .0) ≡ b
+        → Covers bt (e ∷ r) i
         → Covers bt (e ∷ x ∷ r) (place a b e x r i)
     covers-place true b e x r i p q c = covers-refl (e ∷ x ∷ r)
     covers-place false true e x r i p q c = covers-trans _ _ _ (covers-swap e x r) (covers-cons x (e ∷ r) i c)
@@ -102,7 +106,8 @@ module _ {K B : Type 0} (lt : K → K → Bool) (bt : B → B → Bool) where
     covers-insert e (x ∷ r) = covers-place _ _ e x r (insert e r) refl refl (covers-insert e r)
 
     -- the insertion keeps a row ascending
-    asc-place : (a b : Bool) (e x : K × B) (r i : List (K × B)) → lt (e .0) (x .0) ≡ a → lt (x .0) (e .0) ≡ b → Covers bt (e ∷ r) i
+    asc-place : (a b : Bool) (e x : K × B) (r i : List (K × B)) → lt (e .0) (x .0) ≡ a → lt (x .0) (e .0) ≡ b
+        → Covers bt (e ∷ r) i
         → Asc (x ∷ r) → Asc i → Asc (place a b e x r i)
     asc-place true b e x r i p q c h g = (up, h)
       where
@@ -137,17 +142,20 @@ module _ {K B : Type 0} (lt : K → K → Bool) (bt : B → B → Bool) where
     asc-head x y r s h g (inr m) (inl q) = sym q
     asc-head x y r s h g (inr m) (inr n) = clash (h .0 y n) (asym oK _ _ (g .0 x m))
 
-    asc-tail : (x y : K × B) (r s : List (K × B)) → x ≡ y → Asc (x ∷ r) → (e : K × B) → Mem e r → Mem e (y ∷ s) → Mem e s
+    asc-tail : (x y : K × B) (r s : List (K × B)) → x ≡ y → Asc (x ∷ r) → (e : K × B) → Mem e r → Mem e (y ∷ s)
+        → Mem e s
     asc-tail x y r s p h e m (inl q) = clash (h .0 e m) (rw (q, p) (oK .irr (y .0)))
     asc-tail x y r s p h e m (inr n) = n
 
-    asc-ext : (r s : List (K × B)) → Asc r → Asc s → ((e : K × B) → Mem e r → Mem e s) → ((e : K × B) → Mem e s → Mem e r) → r ≡ s
+    asc-ext : (r s : List (K × B)) → Asc r → Asc s → ((e : K × B) → Mem e r → Mem e s)
+        → ((e : K × B) → Mem e s → Mem e r) → r ≡ s
     asc-ext [] [] h g f b = refl
     asc-ext [] (y ∷ s) h g f b = absurd (b y (inl refl))
     asc-ext (x ∷ r) [] h g f b = absurd (f x (inl refl))
     asc-ext (x ∷ r) (y ∷ s) h g f b =
         let p : x ≡ y = asc-head x y r s h g (f x (inl refl)) (b y (inl refl)) in
-        let q : r ≡ s = asc-ext r s (h .1) (g .1) (λ e m. asc-tail x y r s p h e m (f e (inr m))) (λ e m. asc-tail y x s r (sym p) g e m (b e (inr m))) in
+        let q : r ≡ s = asc-ext r s (h .1) (g .1) (λ e m. asc-tail x y r s p h e m (f e (inr m)))
+        (λ e m. asc-tail y x s r (sym p) g e m (b e (inr m))) in
         λ i. p i ∷ q i
 
     dom-anti : (e d : K × B) → Dom bt e d → Dom bt d e → e ≡ d
@@ -196,9 +204,16 @@ module _ {K B : Type 0} (s : K → Option K) (g : B → B) where
   later : (d x : K × B) (l : List (K × B)) → Stepped d l → Stepped d (x ∷ l)
   later d x l h = record { old = h .old; mem = inr (h .mem); key = h .key; val = h .val }
 
-  out-put : (o : Option K) (d x : K × B) (l : List (K × B)) → s (x .0) ≡ o → (Mem d (ext l) → Stepped d l) → Mem d (put o (g (x .1)) (ext l)) → Stepped d (x ∷ l)
+  out-put : (o : Option K) (d x : K × B) (l : List (K × B)) → s (x .0) ≡ o → (Mem d (ext l) → Stepped d l)
+      → Mem d (put o (g (x .1)) (ext l)) → Stepped d (x ∷ l)
   out-put none d x l h f m = later d x l (f m)
-  out-put (some k) d x l h f (inl p) = record { old = x; mem = inl refl; key = h ∙ ap (λ (e : K × B). some (e .0)) (sym p); val = ap (λ (e : K × B). e .1) p }
+  out-put (some k) d x l h f (inl p) =
+      record {
+        old = x;
+        mem = inl refl;
+        key = h ∙ ap (λ (e : K × B). some (e .0)) (sym p);
+        val = ap (λ (e : K × B). e .1) p;
+      }
   out-put (some k) d x l h f (inr m) = later d x l (f m)
 
   pub mem-ext-out : (l : List (K × B)) (d : K × B) → Mem d (ext l) → Stepped d l
@@ -208,14 +223,23 @@ module _ {K B : Type 0} (s : K → Option K) (g : B → B) where
 
   module _ (bt : B → B → Bool) (mono : (u v : B) → bt (g u) (g v) ≡ bt u v) where
     pub ext-covers : (l r : List (K × B)) → Covers bt l r → Covers bt (ext l) (ext r)
-    ext-covers l r c = record { from = λ e m. fr e (mem-ext-out r e m); best = λ e m. let h = mem-ext-out l e m in bs e h (c .best (h .old) (h .mem)) }
+    ext-covers l r c =
+        record {
+          from = λ e m. fr e (mem-ext-out r e m);
+          best = λ e m. let h = mem-ext-out l e m in bs e h (c .best (h .old) (h .mem));
+        }
       where
         fr : (e : K × B) → Stepped e r → Mem e (ext l)
-        fr e h = subst (λ (v : B). Mem (e .0, v) (ext l)) (sym (h .val)) (mem-ext-in l (h .old) (e .0) (h .key) (c .from _ (h .mem)))
+        fr e h = subst (λ (v : B). Mem (e .0, v) (ext l)) (sym (h .val))
+            (mem-ext-in l (h .old) (e .0) (h .key) (c .from _ (h .mem)))
 
-        bs : (e : K × B) (h : Stepped e l) → (d : K × B) × Mem d r × Dom bt (h .old) d → (d : K × B) × Mem d (ext r) × Dom bt e d
-        bs e h (d, n, p) =
-            ((e .0, g (d .1)), mem-ext-in r d (e .0) (ap s (p .key) ∙ h .key) n, record { key = refl; good = rw (h .val, mono) (p .good) })
+        bs : (e : K × B) (h : Stepped e l) → (d : K × B) × Mem d r × Dom bt (h .old) d
+            → (d : K × B) × Mem d (ext r) × Dom bt e d
+        bs e h (d, n, p) = (
+          (e .0, g (d .1)),
+          mem-ext-in r d (e .0) (ap s (p .key) ∙ h .key) n,
+          record { key = refl; good = rw (h .val, mono) (p .good) },
+        )
 
 -- ---- the row of a list
 
@@ -237,18 +261,23 @@ module _ {K B C : Type 0} (lt : K → K → Bool) (bt : B → B → Bool) (ct : 
       → place lt ct a b (across e) (across x) (map across r) (map across i) ≡ map across (place lt bt a b e x r i)
   place-across true b e x r i h = refl
   place-across false true e x r i h = refl
-  place-across false false e x r i h = ap (λ t. t ∷ map across r) (ap (λ c. cond c (across e) (across x)) h ∙ keep-across (bt (e .1) (x .1)) e x)
+  place-across false false e x r i h =
+      ap (λ t. t ∷ map across r) (ap (λ c. cond c (across e) (across x)) h ∙ keep-across (bt (e .1) (x .1)) e x)
 
   -- where the two tests agree, the insertions do
-  pub insert-across : (e : K × B) (r : List (K × B)) → ((x : K × B) → Mem x r → ct (φ (e .1)) (φ (x .1)) ≡ bt (e .1) (x .1)) → insert lt ct (across e) (map across r) ≡ map across (insert lt bt e r)
+  pub insert-across : (e : K × B) (r : List (K × B))
+      → ((x : K × B) → Mem x r → ct (φ (e .1)) (φ (x .1)) ≡ bt (e .1) (x .1))
+      → insert lt ct (across e) (map across r) ≡ map across (insert lt bt e r)
   unfolding insert
   insert-across e [] h = refl
   insert-across e (x ∷ r) h =
-      ap (place lt ct (lt (e .0) (x .0)) (lt (x .0) (e .0)) (across e) (across x) (map across r)) (insert-across e r (λ y m. h y (inr m)))
+      ap (place lt ct (lt (e .0) (x .0)) (lt (x .0) (e .0)) (across e) (across x) (map across r))
+      (insert-across e r (λ y m. h y (inr m)))
       ∙ place-across (lt (e .0) (x .0)) (lt (x .0) (e .0)) e x r (insert lt bt e r) (h x (inl refl))
 
 module _ {K B : Type 0} (lt : K → K → Bool) (bt : B → B → Bool) where
-  place-grows : (a b : Bool) (e x : K × B) (r i : List (K × B)) → length r ≤ length i → length (x ∷ r) ≤ length (place lt bt a b e x r i)
+  place-grows : (a b : Bool) (e x : K × B) (r i : List (K × B)) → length r ≤ length i
+      → length (x ∷ r) ≤ length (place lt bt a b e x r i)
   place-grows true b e x r i h = omega arith
   place-grows false true e x r i h = omega arith
   place-grows false false e x r i h = omega arith
@@ -263,7 +292,8 @@ module _ {K B : Type 0} (lt : K → K → Bool) (bt : B → B → Bool) where
 
 module _ {K B : Type 0} (lt : K → K → Bool) (bt : B → B → Bool) (oK : Order lt) where
   -- behind the entries of lower keys
-  pub insert-past : (e : K × B) (a r : List (K × B)) → ((x : K × B) → Mem x a → lt (x .0) (e .0) ≡ true) → insert lt bt e (a ++ r) ≡ a ++ insert lt bt e r
+  pub insert-past : (e : K × B) (a r : List (K × B)) → ((x : K × B) → Mem x a → lt (x .0) (e .0) ≡ true)
+      → insert lt bt e (a ++ r) ≡ a ++ insert lt bt e r
   unfolding insert
   insert-past e [] r h = refl
   insert-past e (x ∷ a) r h =
@@ -276,6 +306,7 @@ module _ {K B : Type 0} (lt : K → K → Bool) (bt : B → B → Bool) (oK : Or
   insert-before e x r h = rw h
 
   -- at its own key, where the better stays
-  pub insert-at : (e x : K × B) (r : List (K × B)) → e .0 ≡ x .0 → insert lt bt e (x ∷ r) ≡ cond (bt (e .1) (x .1)) e x ∷ r
+  pub insert-at : (e x : K × B) (r : List (K × B)) → e .0 ≡ x .0
+      → insert lt bt e (x ∷ r) ≡ cond (bt (e .1) (x .1)) e x ∷ r
   unfolding insert
   insert-at e x r h = rw (h, oK .irr (x .0))

@@ -1,6 +1,7 @@
--- Sets of small numbers as words: bit k of x for the number k. `bit x k` is that bit, as a Bool, and `setOf n f` the word of the k below n with f k.
--- A contract speaks of bits; two words below 2 ^ n with the same n bits are equal (`ext`). What `&`, `|`, `^`, and-not, single bits, the lowest bit and
--- the order of numbers mean on sets. Rests on Terms and the kit's words.
+-- Sets of small numbers as words: bit k of x for the number k. `bit x k` is that bit, as a Bool, and `setOf n f` the
+-- word of the k below n with f k. A contract speaks of bits; two words below 2 ^ n with the same n bits are equal
+-- (`ext`). What `&`, `|`, `^`, and-not, single bits, the lowest bit and the order of numbers mean on sets. Rests on
+-- Terms and the kit's words.
 use mathlib.Core.Path.{_≡_, refl, sym, ap, ap₂, _∙_, subst}
 use mathlib.Core.Logic.{_⊎_, inl, inr, _↔_}
 use mathlib.Core.Bool.{Bool, true, false, not, _&&_, _||_, true≢false, false≢true, and-true, and-false}
@@ -122,7 +123,8 @@ module _ (op f : ℕ → ℕ → ℕ) (g : Bool → Bool → Bool)
       ∙ ap₂ g (sym (bit-zero x)) (sym (bit-zero y))
   op-bit x y (suc k) =
       bit-suc (op x y) k
-      ∙ ap (λ (z : ℕ). bit z k) (ap (λ (z : ℕ). z / 2) (op-digits x y) ∙ half-of (op (x / 2) (y / 2)) (g (odd x) (odd y)))
+      ∙ ap (λ (z : ℕ). bit z k) (ap (λ (z : ℕ). z / 2) (op-digits x y)
+      ∙ half-of (op (x / 2) (y / 2)) (g (odd x) (odd y)))
       ∙ op-bit (x / 2) (y / 2) k
       ∙ ap₂ g (sym (bit-suc x k)) (sym (bit-suc y k))
 
@@ -175,7 +177,8 @@ minus x y = x - bitAnd x y
 sub-step : (x y : ℕ) → minus x y ≡ minus (x / 2) (y / 2) * 2 + (x % 2 - min (x % 2) (y % 2))
 unfolding minus
 sub-step x y =
-    ap (λ (z : ℕ). x - z) (and-step x y) ∙ go (bitAnd (x / 2) (y / 2)) (min (x % 2) (y % 2)) (and-le-l (x / 2) (y / 2)) (min-le-left (x % 2) (y % 2))
+    ap (λ (z : ℕ). x - z) (and-step x y)
+    ∙ go (bitAnd (x / 2) (y / 2)) (min (x % 2) (y % 2)) (and-le-l (x / 2) (y / 2)) (min-le-left (x % 2) (y % 2))
   where
     go : (a m : ℕ) → a ≤ x / 2 → m ≤ x % 2 → x - (a * 2 + m) ≡ (x / 2 - a) * 2 + (x % 2 - m)
     go a m ha hm = omega arith
@@ -199,7 +202,8 @@ not-step n x h =
 pub bit-not : (n x k : ℕ) → x < 2 ^ n → k < n → bit ((2 ^ n - 1) - x) k ≡ not (bit x k)
 bit-not zero x k h l = absurd (not-suc-le-zero l)
 bit-not (suc n) x zero h l =
-    bit-zero ((2 ^ suc n - 1) - x) ∙ ap odd (not-step n x h) ∙ odd-of ((2 ^ n - 1) - x / 2) (not (odd x)) ∙ ap not (sym (bit-zero x))
+    bit-zero ((2 ^ suc n - 1) - x) ∙ ap odd (not-step n x h) ∙ odd-of ((2 ^ n - 1) - x / 2) (not (odd x))
+    ∙ ap not (sym (bit-zero x))
 bit-not (suc n) x (suc k) h l =
     bit-suc ((2 ^ suc n - 1) - x) k
     ∙ ap (λ (z : ℕ). bit z k) (ap (λ (z : ℕ). z / 2) (not-step n x h) ∙ half-of ((2 ^ n - 1) - x / 2) (not (odd x)))
@@ -228,9 +232,11 @@ bit-and-not n x y k hx hy = bit-and x ((2 ^ n - 1) - y) k ∙ go (below-or-not k
 pub bit-pow : (k j : ℕ) → bit (2 ^ k) j ≡ eqb j k
 bit-pow zero zero = bit-zero 1
 bit-pow zero (suc j) = bit-suc 1 j ∙ bit-none j ∙ sym (eqb·suc-zero j)
-bit-pow (suc k) zero = bit-zero (2 ^ suc k) ∙ ap (λ (d : ℕ). eqb d 1) (ap (λ (z : ℕ). z % 2) (pow-suc 2 k) ∙ mul-mod-left (2 ^ k) 2) ∙ sym (eqb·zero-suc k)
+bit-pow (suc k) zero = bit-zero (2 ^ suc k)
+    ∙ ap (λ (d : ℕ). eqb d 1) (ap (λ (z : ℕ). z % 2) (pow-suc 2 k) ∙ mul-mod-left (2 ^ k) 2) ∙ sym (eqb·zero-suc k)
 bit-pow (suc k) (suc j) =
-    bit-suc (2 ^ suc k) j ∙ ap (λ (z : ℕ). bit z j) (ap (λ (z : ℕ). z / 2) (pow-suc 2 k) ∙ mul-div-cancel (2 ^ k) two-pos)
+    bit-suc (2 ^ suc k) j ∙ ap (λ (z : ℕ). bit z j)
+    (ap (λ (z : ℕ). z / 2) (pow-suc 2 k) ∙ mul-div-cancel (2 ^ k) two-pos)
     ∙ bit-pow k j ∙ sym (eqb·suc-suc j k)
 
 pub shl-one : (n k : ℕ) → k < n → (1 * 2 ^ k) % 2 ^ n ≡ 2 ^ k
@@ -265,7 +271,8 @@ and-self-not n x h =
 -- `x + 2 ^ k` where bit k is not there
 pub with-sum : (n : ℕ) {x k : ℕ} → x < 2 ^ n → k < n → bit x k ≡ false → bitOr x (2 ^ k) ≡ x + 2 ^ k
 with-sum n {x} {k} h l e =
-    or-disjoint x (2 ^ k) (no-bits n (and-lt n x (2 ^ k) h (pow-lt l)) (λ j lj. bit-and x (2 ^ k) j ∙ ap (λ (b : Bool). bit x j && b) (bit-pow k j) ∙ go j (eqb j k) refl))
+    or-disjoint x (2 ^ k) (no-bits n (and-lt n x (2 ^ k) h (pow-lt l))
+    (λ j lj. bit-and x (2 ^ k) j ∙ ap (λ (b : Bool). bit x j && b) (bit-pow k j) ∙ go j (eqb j k) refl))
   where
     go : (j : ℕ) (b : Bool) → eqb j k ≡ b → bit x j && b ≡ false
     go j true q = ap (λ (i : ℕ). bit x i && true) (eqb-true j k q) ∙ ap (λ (b : Bool). b && true) e
@@ -284,7 +291,8 @@ setOf-top (suc n) f =
     ∙ go (setOf n (λ k. f (suc k))) (digit (f (suc n))) (digit (f 0))
   where
     go : (a d b : ℕ) → (a + d * 2 ^ n) * 2 + b ≡ a * 2 + b + d * 2 ^ suc n
-    go a d b = let e : d * 2 ^ suc n ≡ d * 2 ^ n * 2 = ap (λ (z : ℕ). d * z) (pow-suc 2 n) ∙ sym (mul-assoc d (2 ^ n) 2) in omega arith
+    go a d b = let e : d * 2 ^ suc n ≡ d * 2 ^ n * 2 = ap (λ (z : ℕ). d * z) (pow-suc 2 n)
+        ∙ sym (mul-assoc d (2 ^ n) 2) in omega arith
 
 pub setOf-and : (n : ℕ) (f g : ℕ → Bool) → bitAnd (setOf n f) (setOf n g) ≡ setOf n (λ k. f k && g k)
 setOf-and n f g =
@@ -296,15 +304,20 @@ setOf-or n f g =
     setOf-is n (λ k. f k || g k) (or-lt n (setOf n f) (setOf n g) (setOf-lt n f) (setOf-lt n g))
     (λ k l. bit-or (setOf n f) (setOf n g) k ∙ ap₂ (λ (p q : Bool). p || q) (bit-setOf n f k l) (bit-setOf n g k l))
 
-pub setOf-minus : (n : ℕ) (f g : ℕ → Bool) → setOf n f - bitAnd (setOf n f) (setOf n g) ≡ setOf n (λ k. f k && not (g k))
+pub setOf-minus : (n : ℕ) (f g : ℕ → Bool)
+    → setOf n f - bitAnd (setOf n f) (setOf n g) ≡ setOf n (λ k. f k && not (g k))
 setOf-minus n f g =
-    setOf-is n (λ k. f k && not (g k)) (lt-of-le-of-lt (sub-le (setOf n f) (bitAnd (setOf n f) (setOf n g))) (setOf-lt n f))
-    (λ k l. bit-minus (setOf n f) (setOf n g) k ∙ ap₂ (λ (p q : Bool). p && not q) (bit-setOf n f k l) (bit-setOf n g k l))
+    setOf-is n (λ k. f k && not (g k))
+    (lt-of-le-of-lt (sub-le (setOf n f) (bitAnd (setOf n f) (setOf n g))) (setOf-lt n f))
+    (λ k l. bit-minus (setOf n f) (setOf n g) k
+    ∙ ap₂ (λ (p q : Bool). p && not q) (bit-setOf n f k l) (bit-setOf n g k l))
 
-pub setOf-and-not : (n : ℕ) (f g : ℕ → Bool) → bitAnd (setOf n f) ((2 ^ n - 1) - setOf n g) ≡ setOf n (λ k. f k && not (g k))
+pub setOf-and-not : (n : ℕ) (f g : ℕ → Bool)
+    → bitAnd (setOf n f) ((2 ^ n - 1) - setOf n g) ≡ setOf n (λ k. f k && not (g k))
 setOf-and-not n f g =
     setOf-is n (λ k. f k && not (g k)) (lt-of-le-of-lt (and-le-l (setOf n f) ((2 ^ n - 1) - setOf n g)) (setOf-lt n f))
-    (λ k l. bit-and-not n (setOf n f) (setOf n g) k (setOf-lt n f) (setOf-lt n g) ∙ ap₂ (λ (p q : Bool). p && not q) (bit-setOf n f k l) (bit-setOf n g k l))
+    (λ k l. bit-and-not n (setOf n f) (setOf n g) k (setOf-lt n f) (setOf-lt n g)
+    ∙ ap₂ (λ (p q : Bool). p && not q) (bit-setOf n f k l) (bit-setOf n g k l))
 
 -- ---- the lowest bit
 
@@ -336,7 +349,8 @@ pub trailing-at : (n x : ℕ) → trailingZeros n x < n → bit x (trailingZeros
 trailing-at zero x h = absurd (not-suc-le-zero h)
 trailing-at (suc n) x h = go (odd x) refl (trailing-at n (x / 2))
   where
-    go : (b : Bool) → odd x ≡ b → (trailingZeros n (x / 2) < n → bit (x / 2) (trailingZeros n (x / 2)) ≡ true) → bit x (trailingZeros (suc n) x) ≡ true
+    go : (b : Bool) → odd x ≡ b → (trailingZeros n (x / 2) < n → bit (x / 2) (trailingZeros n (x / 2)) ≡ true)
+        → bit x (trailingZeros (suc n) x) ≡ true
     go true e ih = ap (bit x) (trailing-odd n x e) ∙ bit-zero x ∙ e
     go false e ih =
         ap (bit x) (trailing-even n x e) ∙ bit-suc x (trailingZeros n (x / 2))
@@ -346,7 +360,9 @@ pub trailing-lt : (n : ℕ) {x : ℕ} → x < 2 ^ n → 0 < x → trailingZeros 
 trailing-lt n {x} h p = go (eq-or-lt-of-le (trailing-le n x))
   where
     go : (trailingZeros n x ≡ n) ⊎ (trailingZeros n x < n) → trailingZeros n x < n
-    go (inl e) = let z : x ≡ 0 = no-bits n h (λ k l. trailing-below n x k (subst (λ (t : ℕ). k < t) (sym e) l)) in absurd (omega arith)
+    go (inl e) =
+        let z : x ≡ 0 = no-bits n h (λ k l. trailing-below n x k (subst (λ (t : ℕ). k < t) (sym e) l)) in
+        absurd (omega arith)
     go (inr l) = l
 
 -- `x & (0 - x)`, as a power
@@ -354,7 +370,8 @@ pub low-bit : (n x : ℕ) → 0 < x → x < 2 ^ n → bitAnd x (2 ^ n - x) ≡ 2
 low-bit zero x p h = absurd (omega arith)
 low-bit (suc n) x p h = go (odd x) refl (low-bit n (x / 2))
   where
-    go : (b : Bool) → odd x ≡ b → (0 < x / 2 → x / 2 < 2 ^ n → bitAnd (x / 2) (2 ^ n - x / 2) ≡ 2 ^ trailingZeros n (x / 2))
+    go : (b : Bool) → odd x ≡ b → (0 < x / 2 → x / 2 < 2 ^ n
+        → bitAnd (x / 2) (2 ^ n - x / 2) ≡ 2 ^ trailingZeros n (x / 2))
         → bitAnd x (2 ^ suc n - x) ≡ 2 ^ trailingZeros (suc n) x
     go true e ih =
         let d : x % 2 ≡ 1 = odd-digit x ∙ ap digit e in
@@ -381,26 +398,31 @@ low-bit (suc n) x p h = go (odd x) refl (low-bit n (x / 2))
 
 -- ---- the order of words is that of their highest different bits
 
-pub less : (n m : ℕ) {x y : ℕ} → x < 2 ^ n → y < 2 ^ n → ((k : ℕ) → m < k → k < n → bit x k ≡ bit y k) → bit x m ≡ false → bit y m ≡ true → x < y
+pub less : (n m : ℕ) {x y : ℕ} → x < 2 ^ n → y < 2 ^ n → ((k : ℕ) → m < k → k < n → bit x k ≡ bit y k) → bit x m ≡ false
+    → bit y m ≡ true → x < y
 less zero m hx hy same fx fy = absurd (true≢false (sym fy ∙ bit-beyond 0 m hy zero-le))
 less (suc n) zero {x} {y} hx hy same fx fy =
-    let e : x / 2 ≡ y / 2 = ext n (half-lt n hx) (half-lt n hy) (λ k l. sym (bit-suc x k) ∙ same (suc k) (zero-lt-suc k) (suc-le-suc l) ∙ bit-suc y k) in
+    let e : x / 2 ≡ y / 2 = ext n (half-lt n hx) (half-lt n hy)
+    (λ k l. sym (bit-suc x k) ∙ same (suc k) (zero-lt-suc k) (suc-le-suc l) ∙ bit-suc y k) in
     let a : x % 2 ≡ 0 = odd-digit x ∙ ap digit (sym (bit-zero x) ∙ fx) in
     let b : y % 2 ≡ 1 = odd-digit y ∙ ap digit (sym (bit-zero y) ∙ fy) in
     omega arith
 less (suc n) (suc m) {x} {y} hx hy same fx fy =
     let l : x / 2 < y / 2 =
-    less n m (half-lt n hx) (half-lt n hy) (λ k h l. sym (bit-suc x k) ∙ same (suc k) (suc-le-suc h) (suc-le-suc l) ∙ bit-suc y k)
+    less n m (half-lt n hx) (half-lt n hy)
+    (λ k h l. sym (bit-suc x k) ∙ same (suc k) (suc-le-suc h) (suc-le-suc l) ∙ bit-suc y k)
     (sym (bit-suc x m) ∙ fx) (sym (bit-suc y m) ∙ fy) in
     omega arith
 
 -- the highest different bit of two words in order
-pub less-only : (n : ℕ) {x y : ℕ} → y < 2 ^ n → x < y → (m : ℕ) × (m < n) × ((k : ℕ) → m < k → bit x k ≡ bit y k) × (bit x m ≡ false) × (bit y m ≡ true)
+pub less-only : (n : ℕ) {x y : ℕ} → y < 2 ^ n → x < y
+    → (m : ℕ) × (m < n) × ((k : ℕ) → m < k → bit x k ≡ bit y k) × (bit x m ≡ false) × (bit y m ≡ true)
 less-only zero hy l = absurd (omega arith)
 less-only (suc n) {x} {y} hy l = go (below-or-not (x / 2) (y / 2)) (less-only n {x = x / 2} {y = y / 2} (half-lt n hy))
   where
     go : (x / 2 < y / 2) ⊎ (y / 2 ≤ x / 2)
-        → (x / 2 < y / 2 → (m : ℕ) × (m < n) × ((k : ℕ) → m < k → bit (x / 2) k ≡ bit (y / 2) k) × (bit (x / 2) m ≡ false) × (bit (y / 2) m ≡ true))
+        → (x / 2 < y / 2 → (m : ℕ) × (m < n) × ((k : ℕ) → m < k → bit (x / 2) k ≡ bit (y / 2) k)
+        × (bit (x / 2) m ≡ false) × (bit (y / 2) m ≡ true))
         → (m : ℕ) × (m < suc n) × ((k : ℕ) → m < k → bit x k ≡ bit y k) × (bit x m ≡ false) × (bit y m ≡ true)
     go (inl h) ih =
         let t = ih h in
@@ -435,7 +457,8 @@ and-pow x k =
         here : (j : ℕ) (b : Bool) → eqb j k ≡ b → bit x j && b ≡ b
         here j true q = ap (λ (i : ℕ). bit x i && true) (eqb-true j k q) ∙ ap (λ (b : Bool). b && true) e
         here j false q = and-false (bit x j)
-    go j true q false e = ap (λ (i : ℕ). bit x i && true) (eqb-true j k q) ∙ ap (λ (b : Bool). b && true) e ∙ sym (zero-bits (zero-mul (2 ^ k)) j)
+    go j true q false e = ap (λ (i : ℕ). bit x i && true) (eqb-true j k q) ∙ ap (λ (b : Bool). b && true) e
+        ∙ sym (zero-bits (zero-mul (2 ^ k)) j)
     go j false q false e = and-false (bit x j) ∙ sym (zero-bits (zero-mul (2 ^ k)) j)
 
 -- ---- the lowest bit in which two words differ
@@ -463,7 +486,8 @@ unlike-not false false e = absurd (false≢true e)
 pub xor-zero : (n : ℕ) {x y : ℕ} → x < 2 ^ n → y < 2 ^ n → bitXor x y ≡ 0 → x ≡ y
 xor-zero n {x} {y} hx hy e = ext n hx hy (λ k l. like (bit x k) (bit y k) (sym (bit-xor x y k) ∙ zero-bits e k))
 
-pub first : (n : ℕ) {x y : ℕ} → x < 2 ^ n → y < 2 ^ n → 0 < bitXor x y → First n x y (bit x (trailingZeros n (bitXor x y)))
+pub first : (n : ℕ) {x y : ℕ} → x < 2 ^ n → y < 2 ^ n → 0 < bitXor x y
+    → First n x y (bit x (trailingZeros n (bitXor x y)))
 first n {x} {y} hx hy p =
     let l = trailing-lt n (xor-lt n x y hx hy) p in
     record {
@@ -471,11 +495,13 @@ first n {x} {y} hx hy p =
       below = l;
       agree = λ j h. like (bit x j) (bit y j) (sym (bit-xor x y j) ∙ trailing-below n (bitXor x y) j h);
       mine = refl;
-      theirs = unlike-not (bit x (trailingZeros n (bitXor x y))) (bit y (trailingZeros n (bitXor x y))) (sym (bit-xor x y (trailingZeros n (bitXor x y))) ∙ trailing-at n (bitXor x y) l);
+      theirs = unlike-not (bit x (trailingZeros n (bitXor x y))) (bit y (trailingZeros n (bitXor x y)))
+          (sym (bit-xor x y (trailingZeros n (bitXor x y))) ∙ trailing-at n (bitXor x y) l);
     }
 
 -- the lowest bit in which they differ is known by what it has
-pub lowest-bit : (n m : ℕ) {x y : ℕ} (v : Bool) → x < 2 ^ n → y < 2 ^ n → ((j : ℕ) → j < m → bit x j ≡ bit y j) → bit x m ≡ v → bit y m ≡ not v → bit x (trailingZeros n (bitXor x y)) ≡ v
+pub lowest-bit : (n m : ℕ) {x y : ℕ} (v : Bool) → x < 2 ^ n → y < 2 ^ n → ((j : ℕ) → j < m → bit x j ≡ bit y j)
+    → bit x m ≡ v → bit y m ≡ not v → bit x (trailingZeros n (bitXor x y)) ≡ v
 unfolding first
 lowest-bit n m {x} {y} v hx hy same mine theirs = by (below-or-not d m) (below-or-not m d)
   where
@@ -552,14 +578,16 @@ clear-low zero x j p h = absurd (omega arith)
 clear-low (suc n) x j p h = go (odd x) refl j (clear-low n (x / 2))
   where
     go : (b : Bool) → odd x ≡ b → (j : ℕ)
-        → ((j : ℕ) → 0 < x / 2 → x / 2 < 2 ^ n → bit (bitAnd (x / 2) (x / 2 - 1)) j ≡ bit (x / 2) j && not (eqb j (trailingZeros n (x / 2))))
+        → ((j : ℕ) → 0 < x / 2 → x / 2 < 2 ^ n
+        → bit (bitAnd (x / 2) (x / 2 - 1)) j ≡ bit (x / 2) j && not (eqb j (trailingZeros n (x / 2))))
         → bit (bitAnd x (x - 1)) j ≡ bit x j && not (eqb j (trailingZeros (suc n) x))
     go true e j ih =
         let d : x % 2 ≡ 1 = odd-digit x ∙ ap digit e in
         let s : x - 1 ≡ x / 2 * 2 + 0 = omega arith in
         let w : bitAnd x (x - 1) ≡ x / 2 * 2 + digit false =
         ap (bitAnd x) s ∙ and-step x (x / 2 * 2 + 0)
-        ∙ ap₂ (λ (a b : ℕ). bitAnd (x / 2) a * 2 + b) (half-of (x / 2) false) (ap₂ min d (digits-mod (x / 2) (digit-lt false)))
+        ∙ ap₂ (λ (a b : ℕ). bitAnd (x / 2) a * 2 + b) (half-of (x / 2) false)
+        (ap₂ min d (digits-mod (x / 2) (digit-lt false)))
         ∙ ap (λ (a : ℕ). a * 2 + 0) (and-self (x / 2)) in
         ap (λ (z : ℕ). bit z j) w ∙ bits j ∙ ap (λ (t : ℕ). bit x j && not (eqb j t)) (sym (trailing-odd n x e))
       where
@@ -574,11 +602,15 @@ clear-low (suc n) x j p h = go (odd x) refl j (clear-low n (x / 2))
         let s : x - 1 ≡ (x / 2 - 1) * 2 + 1 = omega arith in
         let w : bitAnd x (x - 1) ≡ bitAnd (x / 2) (x / 2 - 1) * 2 + digit false =
         ap (bitAnd x) s ∙ and-step x ((x / 2 - 1) * 2 + 1)
-        ∙ ap₂ (λ (a b : ℕ). bitAnd (x / 2) a * 2 + b) (half-of (x / 2 - 1) true) (ap₂ min d (digits-mod (x / 2 - 1) (digit-lt true))) in
-        ap (λ (z : ℕ). bit z j) w ∙ bits (λ j. ih j q (half-lt n h)) j ∙ ap (λ (t : ℕ). bit x j && not (eqb j t)) (sym (trailing-even n x e))
+        ∙ ap₂ (λ (a b : ℕ). bitAnd (x / 2) a * 2 + b) (half-of (x / 2 - 1) true)
+        (ap₂ min d (digits-mod (x / 2 - 1) (digit-lt true))) in
+        ap (λ (z : ℕ). bit z j) w ∙ bits (λ j. ih j q (half-lt n h)) j
+        ∙ ap (λ (t : ℕ). bit x j && not (eqb j t)) (sym (trailing-even n x e))
       where
-        bits : ((j : ℕ) → bit (bitAnd (x / 2) (x / 2 - 1)) j ≡ bit (x / 2) j && not (eqb j (trailingZeros n (x / 2)))) → (j : ℕ)
-            → bit (bitAnd (x / 2) (x / 2 - 1) * 2 + digit false) j ≡ bit x j && not (eqb j (suc (trailingZeros n (x / 2))))
+        bits : ((j : ℕ) → bit (bitAnd (x / 2) (x / 2 - 1)) j ≡ bit (x / 2) j && not (eqb j (trailingZeros n (x / 2))))
+            → (j : ℕ)
+            → bit (bitAnd (x / 2) (x / 2 - 1) * 2 + digit false) j ≡ bit x j
+            && not (eqb j (suc (trailingZeros n (x / 2))))
         bits rest zero =
             bit-zero (bitAnd (x / 2) (x / 2 - 1) * 2 + digit false) ∙ odd-of (bitAnd (x / 2) (x / 2 - 1)) false
             ∙ ap (λ (b : Bool). b && not (eqb 0 (suc (trailingZeros n (x / 2))))) (sym (bit-zero x ∙ e))

@@ -1,5 +1,5 @@
--- Signed numbers of the machine as whole numbers: the range of a width in `up` and `dn`, a number read back from its bits, and
--- what the division asks and gives. Rests on Whole.
+-- Signed numbers of the machine as whole numbers: the range of a width in `up` and `dn`, a number read back from its
+-- bits, and what the division asks and gives. Rests on Whole.
 use mathlib.Core.Path.{_≡_, ap, _∙_}
 use Prim.Native.Nat.{_+_, _-_, _/_, _%_, _^_, _<_, _≤_}
 use native.Mathlib.Nat.{div-le-self}
@@ -51,7 +51,8 @@ handed ok e = toZ-ofZ (record { sfits = ok }) ∙ e
 pub widened : {r z : ℤ} → SFits w32 z → mag r < 2 ^ 63 → r ≡ toZ w32 (ofZ w32 z) → toZ w64 (ofZ w64 r) ≡ z
 widened f ok e = handed ok (e ∙ toZ-ofZ f)
 
-pub widened-diff : {r a b : ℤ} → SFits w32 a → SFits w32 b → mag r < 2 ^ 63 → r ≡ toZ w32 (ofZ w32 a) -ℤ toZ w32 (ofZ w32 b) → toZ w64 (ofZ w64 r) ≡ a -ℤ b
+pub widened-diff : {r a b : ℤ} → SFits w32 a → SFits w32 b → mag r < 2 ^ 63
+    → r ≡ toZ w32 (ofZ w32 a) -ℤ toZ w32 (ofZ w32 b) → toZ w64 (ofZ w64 r) ≡ a -ℤ b
 widened-diff f g ok e = handed ok (e ∙ (λ i. toZ-ofZ f i -ℤ toZ-ofZ g i))
 
 -- ---- a signed quotient and remainder, of a number that is not negative by a positive one

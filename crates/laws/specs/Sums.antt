@@ -1,4 +1,5 @@
--- Sums over the numbers below n, the number of bits of a word, and the length of a list made for each number. Rests on Sets.
+-- Sums over the numbers below n, the number of bits of a word, and the length of a list made for each number. Rests on
+-- Sets.
 use mathlib.Core.Path.{_≡_, refl, sym, ap, ap₂, _∙_}
 use mathlib.Core.Bool.{Bool, true, false}
 use mathlib.Core.List.{List, [], _∷_, _++_, append-assoc, append-nil}
@@ -34,12 +35,14 @@ sum-none g = refl
 pub sum-same : (n : ℕ) (g h : ℕ → ℕ) → ((i : ℕ) → i < n → g i ≡ h i) → sum n g ≡ sum n h
 unfolding sum
 sum-same zero g h e = refl
-sum-same (suc n) g h e = ap₂ _+_ (e 0 (omega arith)) (sum-same n (λ i. g (suc i)) (λ i. h (suc i)) (λ i l. e (suc i) (omega arith)))
+sum-same (suc n) g h e =
+    ap₂ _+_ (e 0 (omega arith)) (sum-same n (λ i. g (suc i)) (λ i. h (suc i)) (λ i l. e (suc i) (omega arith)))
 
 pub sum-add : (n : ℕ) (g h : ℕ → ℕ) → sum n (λ i. g i + h i) ≡ sum n g + sum n h
 unfolding sum
 sum-add zero g h = refl
-sum-add (suc n) g h = ap (λ x. g 0 + h 0 + x) (sum-add n (λ i. g (suc i)) (λ i. h (suc i))) ∙ regroup (g 0) (h 0) (sum n (λ i. g (suc i))) (sum n (λ i. h (suc i)))
+sum-add (suc n) g h = ap (λ x. g 0 + h 0 + x) (sum-add n (λ i. g (suc i)) (λ i. h (suc i)))
+    ∙ regroup (g 0) (h 0) (sum n (λ i. g (suc i))) (sum n (λ i. h (suc i)))
   where
     regroup : (a b c d : ℕ) → a + b + (c + d) ≡ a + c + (b + d)
     regroup a b c d = omega arith
@@ -53,7 +56,8 @@ unfolding sum
 ones-sum zero w h = none-below w h
 ones-sum (suc n) w h =
     ones-step w ∙ ap₂ _+_ (odd-digit w ∙ ap digit (sym (bit-zero w)))
-    (ones-sum n (w / 2) (half n w h) ∙ sum-same n (λ i. digit (bit (w / 2) i)) (λ i. digit (bit w (suc i))) (λ i l. ap digit (sym (bit-suc w i))))
+    (ones-sum n (w / 2) (half n w h)
+    ∙ sum-same n (λ i. digit (bit (w / 2) i)) (λ i. digit (bit w (suc i))) (λ i l. ap digit (sym (bit-suc w i))))
   where
     half : (n w : ℕ) → w < 2 ^ suc n → w / 2 < 2 ^ n
     half n w h = let e = pow-suc 2 n in omega arith
@@ -68,7 +72,8 @@ module _ {A : Type 0} where
   pub length-each : (n : ℕ) (f : ℕ → List A) → length (each (range 0 n) f) ≡ sum n (λ i. length (f i))
   unfolding sum
   length-each zero f = refl
-  length-each (suc n) f = length-append (f 0) (each (range 1 n) f) ∙ ap (λ x. length (f 0) + x) (ap length (each-from f 0 n) ∙ length-each n (λ i. f (suc i)))
+  length-each (suc n) f = length-append (f 0) (each (range 1 n) f)
+      ∙ ap (λ x. length (f 0) + x) (ap length (each-from f 0 n) ∙ length-each n (λ i. f (suc i)))
 
   each-end : (n : ℕ) (f : ℕ → List A) → each (range 0 (suc n)) f ≡ each (range 0 n) f ++ f n
   each-end zero f = append-nil (f 0)
@@ -88,4 +93,11 @@ module _ {A : Type 0} where
       no : suc i ≤ 0 → ⊥
       no h = omega arith
   each-part (suc i) (suc n) f h =
-      omega (arith, length-append (f 0) (each (range 1 i) f), length-append (f 0) (each (range 1 n) f), ap length (each-from f 0 i), ap length (each-from f 0 n), each-part i n (λ i. f (suc i)) (omega arith))
+      omega (
+        arith,
+        length-append (f 0) (each (range 1 i) f),
+        length-append (f 0) (each (range 1 n) f),
+        ap length (each-from f 0 i),
+        ap length (each-from f 0 n),
+        each-part i n (λ i. f (suc i)) (omega arith),
+      )

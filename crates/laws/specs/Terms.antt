@@ -1,5 +1,6 @@
--- The terms that the trusted definitions of the crates above are made of: membership, lists with a test, a list for each entry, numbers in a row, tests for
--- some number or some entry, pairs in order, sets as numbers. Definitions only; their laws are in Tests, Lists, Orders and Sets.
+-- The terms that the trusted definitions of the crates above are made of: membership, lists with a test, a list for
+-- each entry, numbers in a row, tests for some number or some entry, pairs in order, sets as numbers. Definitions only;
+-- their laws are in Tests, Lists, Orders and Sets.
 use mathlib.Core.Path.{_≡_}
 use mathlib.Core.Logic.{_⊎_}
 use mathlib.Core.Bool.{Bool, true, false, not, cond, _||_, _&&_}

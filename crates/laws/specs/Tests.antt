@@ -1,5 +1,5 @@
--- Tests as Bool equations (`a ≡ true`, `a ≡ false`): case work, facts out of `&&`, `||` and `not` and back, tests for some number
--- below a bound, and the bridges to the tests of numbers. Rests on Terms.
+-- Tests as Bool equations (`a ≡ true`, `a ≡ false`): case work, facts out of `&&`, `||` and `not` and back, tests for
+-- some number below a bound, and the bridges to the tests of numbers. Rests on Terms.
 use mathlib.Core.Path.{_≡_, refl, sym, _∙_}
 use mathlib.Core.Bool.{Bool, true, false, not, true≢false, _||_, _&&_, or-assoc, or-comm, or-true, and-true, and-or-distrib-right}
 use Prim.Native.Nat.{ℕ, zero, suc, _+_, _<_}
@@ -86,7 +86,8 @@ nor-swap true false b = sym (and-true (not b))
 pub any-out : (n : ℕ) (f : ℕ → Bool) → any n f ≡ true → (i : ℕ) × (i < n) × (f i ≡ true)
 any-out zero f h = clash h refl
 any-out (suc n) f h =
-    or-out (f zero) _ h (λ k. (zero, omega arith, k)) (λ k. let (i, l, e) = any-out n (λ i. f (suc i)) k in (suc i, omega arith, e))
+    or-out (f zero) _ h (λ k. (zero, omega arith, k))
+    (λ k. let (i, l, e) = any-out n (λ i. f (suc i)) k in (suc i, omega arith, e))
 
 pub any-in : (n : ℕ) (f : ℕ → Bool) (i : ℕ) → i < n → f i ≡ true → any n f ≡ true
 any-in zero f i l h = let z : ⊥ = omega arith in absurd z

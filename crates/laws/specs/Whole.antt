@@ -1,5 +1,5 @@
--- Whole numbers for `omega`, which reads naturals only: z is up z − dn z, and each operation and test of the kit's ℤ is a
--- linear fact on these two naturals. At a literal both compute. Rests on the kit alone.
+-- Whole numbers for `omega`, which reads naturals only: z is up z − dn z, and each operation and test of the kit's ℤ is
+-- a linear fact on these two naturals. At a literal both compute. Rests on the kit alone.
 use mathlib.Core.Path.{_≡_, refl, sym, ap, _∙_}
 use mathlib.Core.Bool.{Bool, true, false, cond}
 use Prim.Native.Nat.{ℕ, zero, suc, _+_, _-_, _<_, _≤_}
@@ -51,7 +51,8 @@ same-whole (negsuc a) (negsuc b) e = ap negsuc (omega arith)
 subtracted : (a b : ℕ) → up (subℕ a b) + b ≡ dn (subℕ a b) + a
 subtracted a b = go (ltb a b) refl
   where
-    go : (t : Bool) → ltb a b ≡ t → up (cond t (negsuc (b - suc a)) (pos (a - b))) + b ≡ dn (cond t (negsuc (b - suc a)) (pos (a - b))) + a
+    go : (t : Bool) → ltb a b ≡ t
+        → up (cond t (negsuc (b - suc a)) (pos (a - b))) + b ≡ dn (cond t (negsuc (b - suc a)) (pos (a - b))) + a
     go true h = omega (arith, ltb-true a b h)
     go false h = omega (arith, ltb-false a b h)
 

@@ -1,5 +1,5 @@
-// A body laid out: the bytes of its records, one after the other, in lent bytes. Offsets of fields stand here and where a
-// record is decoded (crate records), and nowhere else. What bytes a body is laid out as is in form's Form.
+// A body laid out: the bytes of its records, one after the other, in lent bytes. Offsets of fields stand here and where
+// a record is decoded (crate records), and nowhere else. What bytes a body is laid out as is in form's Form.
 ghost use mathlib.Core.Path.{_≡_};
 ghost use mathlib.Core.Bool.{true};
 ghost use mathlib.Core.List.{_++_};

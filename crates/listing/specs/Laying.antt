@@ -29,7 +29,8 @@ wordBytes kind word third other another second outcome = each (range 0 64)
 
 -- the entries of an edge: assignments, then edges
 unfoldable pub edgeBytes : (assigned jump fall variable second outcome : ℕ) → List ℕ
-edgeBytes assigned jump fall variable second outcome = wordBytes 1 assigned variable 0 0 second outcome ++ wordBytes 2 jump 1 fall 2 second outcome
+edgeBytes assigned jump fall variable second outcome =
+    wordBytes 1 assigned variable 0 0 second outcome ++ wordBytes 2 jump 1 fall 2 second outcome
 
 -- ---- one turn of the loop by first blocks
 module _ (before : List ℕ) (start kind word third other another second outcome : ℕ) (out : List ℕ) (at f : ℕ)

@@ -14,4 +14,5 @@ module _ (form before : List ℕ) where
   pub one-list : (a b : Listed) (x y : List ℕ)
       → a ≡ listing form (length before) → x ≡ heldAfter a (conflictBytes (bodyOf form)) before
       → b ≡ listing form (length before) → y ≡ heldAfter b (conflictBytes (bodyOf form)) before → (a ≡ b) × (x ≡ y)
-  one-list a b x y p u q v = (p ∙ sym q, u ∙ ap (λ (r : Listed). heldAfter r (conflictBytes (bodyOf form)) before) (p ∙ sym q) ∙ sym v)
+  one-list a b x y p u q v =
+      (p ∙ sym q, u ∙ ap (λ (r : Listed). heldAfter r (conflictBytes (bodyOf form)) before) (p ∙ sym q) ∙ sym v)

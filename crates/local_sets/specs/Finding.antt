@@ -29,7 +29,13 @@ use Rattle.local_sets.specs.Parts.{blockIn, ColumnsOf, Sized, TouchedBy,
 use Rattle.local_sets.specs.Parts.{OpposedAt, passed, ownEffects, EffectRowsOf, OpposedOf}
 
 pub columns-sized : {block : ℕ → Block} (c : Columns) → ColumnsOf block c → Sized (c .tests)
-columns-sized c s = record { variables = s .variables .size; jumps = s .jumps .size; falls = s .falls .size; constants = s .constants .size }
+columns-sized c s =
+    record {
+      variables = s .variables .size;
+      jumps = s .jumps .size;
+      falls = s .falls .size;
+      constants = s .constants .size;
+    }
 
 module _ (body : Body) (size : length (body .blocks) ≡ 64) (c : Columns)
     (shown : ColumnsOf (blockIn (body .count) (body .blocks)) c) where
@@ -60,11 +66,21 @@ module _ (body : Body) (size : length (body .blocks) ≡ 64) (c : Columns)
 
   by-jump : Shows (t .jump) 1
   unfolding condition block
-  by-jump k h = λ i. record { variable = shown .variables .at k h i; relation = shown .jumps .at k h i; constant = shown .constants .at k h i }
+  by-jump k h =
+      λ i. record {
+        variable = shown .variables .at k h i;
+        relation = shown .jumps .at k h i;
+        constant = shown .constants .at k h i;
+      }
 
   by-fall : Shows (t .fall) 2
   unfolding condition block
-  by-fall k h = λ i. record { variable = shown .variables .at k h i; relation = shown .falls .at k h i; constant = shown .constants .at k h i }
+  by-fall k h =
+      λ i. record {
+        variable = shown .variables .at k h i;
+        relation = shown .falls .at k h i;
+        constant = shown .constants .at k h i;
+      }
 
   -- ---- rows of effects
   passed-is : (b : ℕ) → b ≤ 64 → passed (c .owned) b ≡ effectsBelow body b
@@ -152,7 +168,15 @@ module _ (body : Body) (size : length (body .blocks) ≡ 64) (c : Columns)
 
   pub local-is : (e : EffectRows) → EffectRowsOf t (c .owned) (body .effects) e → (jumping falling : Edges)
       → OpposedOf t (t .jump) jumping → OpposedOf t (t .fall) falling
-      → record { tests = t .tests; targets = c .targets; touched = e .touched; denied = e .denied; jumping = jumping; falling = falling; variable = t .variable } ≡ localOf body
+      → record {
+        tests = t .tests;
+        targets = c .targets;
+        touched = e .touched;
+        denied = e .denied;
+        jumping = jumping;
+        falling = falling;
+        variable = t .variable;
+      } ≡ localOf body
   unfolding localOf block
   local-is e rowed jumping falling one two = λ i. record {
     tests = tests-are i;

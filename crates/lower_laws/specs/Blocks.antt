@@ -32,7 +32,8 @@ module _ {A : Type 0} where
   within (x ∷ l) (suc i) y z h = within l i y z (omega arith)
 
   -- of the first n
-  pub taken : (n : ℕ) (l : List A) (i : ℕ) (y z : A) → i < length l → when (ltb i n) (getD l i y) z ≡ getD (take n l) i z
+  pub taken : (n : ℕ) (l : List A) (i : ℕ) (y z : A) → i < length l
+      → when (ltb i n) (getD l i y) z ≡ getD (take n l) i z
   taken n l i y z h = split (ltb i n)
       (λ e. rw (e, getD-take n l i z (ltb-true i n e)) (within l i y z h))
       (λ e. rw e (sym (beyond (take n l) i z (omega (arith, ltb-false i n e, length-take n l)))))

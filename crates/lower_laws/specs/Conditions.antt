@@ -1,5 +1,6 @@
--- The test `contradict` says exactly that two conditions are on one variable and no whole number meets both (`contradict-says`): a number that meets two
--- conditions has a fellow within 1 of one of the two constants that meets both. Rests on Relations and laws.Whole.
+-- The test `contradict` says exactly that two conditions are on one variable and no whole number meets both
+-- (`contradict-says`): a number that meets two conditions has a fellow within 1 of one of the two constants that meets
+-- both. Rests on Relations and laws.Whole.
 use mathlib.Core.Path.{_≡_, refl, sym, ap, subst, _∙_}
 use mathlib.Core.Logic.{_↔_}
 use mathlib.Core.Bool.{Bool, true, false, not, _||_, _&&_}
@@ -36,7 +37,8 @@ above (suc (suc (suc (suc (suc zero))))) x y c h k = lt-leZ x c (omega arith) �
 above (suc (suc (suc (suc (suc (suc m)))))) x y c h k = refl
 
 -- below c, c itself or above c
-pub by-side : {X : Type 0} (x c : ℤ) → (up x + dn c < up c + dn x → X) → (x ≡ c → X) → (up c + dn x < up x + dn c → X) → X
+pub by-side : {X : Type 0} (x c : ℤ) → (up x + dn c < up c + dn x → X) → (x ≡ c → X)
+    → (up c + dn x < up x + dn c → X) → X
 by-side {X} x c f g h = go (ltZ x c) (ltZ c x) refl refl
   where
     go : (t u : Bool) → ltZ x c ≡ t → ltZ c x ≡ u → X
@@ -90,19 +92,28 @@ module _ (c d : Condition) where
       by-side x a
       (λ xa. by-side x b
       (λ xb. by-side a b
-      (λ ab. by-c (at-less a (moved x (a -ℤ pos 1) (below r x (a -ℤ pos 1) a xa (omega (arith, one-less a))) (below q x (a -ℤ pos 1) b xb (omega (arith, one-less a))) m)))
-      (λ e. by-c (at-less a (moved x (a -ℤ pos 1) (below r x (a -ℤ pos 1) a xa (omega (arith, one-less a))) (below q x (a -ℤ pos 1) b xb (omega (arith, one-less a, ap up e, ap dn e))) m)))
-      (λ ba. by-d (at-less b (moved x (b -ℤ pos 1) (below r x (b -ℤ pos 1) a xa (omega (arith, one-less b))) (below q x (b -ℤ pos 1) b xb (omega (arith, one-less b))) m))))
+      (λ ab. by-c (at-less a (moved x (a -ℤ pos 1) (below r x (a -ℤ pos 1) a xa (omega (arith, one-less a)))
+      (below q x (a -ℤ pos 1) b xb (omega (arith, one-less a))) m)))
+      (λ e. by-c (at-less a (moved x (a -ℤ pos 1) (below r x (a -ℤ pos 1) a xa (omega (arith, one-less a)))
+      (below q x (a -ℤ pos 1) b xb (omega (arith, one-less a, ap up e, ap dn e))) m)))
+      (λ ba. by-d (at-less b (moved x (b -ℤ pos 1) (below r x (b -ℤ pos 1) a xa (omega (arith, one-less b)))
+      (below q x (b -ℤ pos 1) b xb (omega (arith, one-less b))) m))))
       (λ e. by-d (at-same b (subst Meets e m)))
-      (λ bx. by-d (at-more b (moved x (b +ℤ pos 1) (below r x (b +ℤ pos 1) a xa (omega (arith, one-more b))) (above q x (b +ℤ pos 1) b bx (omega (arith, one-more b))) m))))
+      (λ bx. by-d (at-more b (moved x (b +ℤ pos 1) (below r x (b +ℤ pos 1) a xa (omega (arith, one-more b)))
+      (above q x (b +ℤ pos 1) b bx (omega (arith, one-more b))) m))))
       (λ e. by-c (at-same a (subst Meets e m)))
       (λ ax. by-side x b
-      (λ xb. by-c (at-more a (moved x (a +ℤ pos 1) (above r x (a +ℤ pos 1) a ax (omega (arith, one-more a))) (below q x (a +ℤ pos 1) b xb (omega (arith, one-more a))) m)))
+      (λ xb. by-c (at-more a (moved x (a +ℤ pos 1) (above r x (a +ℤ pos 1) a ax (omega (arith, one-more a)))
+      (below q x (a +ℤ pos 1) b xb (omega (arith, one-more a))) m)))
       (λ e. by-d (at-same b (subst Meets e m)))
       (λ bx. by-side a b
-      (λ ab. by-d (at-more b (moved x (b +ℤ pos 1) (above r x (b +ℤ pos 1) a ax (omega (arith, one-more b))) (above q x (b +ℤ pos 1) b bx (omega (arith, one-more b))) m)))
-      (λ e. by-d (at-more b (moved x (b +ℤ pos 1) (above r x (b +ℤ pos 1) a ax (omega (arith, one-more b, ap up e, ap dn e))) (above q x (b +ℤ pos 1) b bx (omega (arith, one-more b))) m)))
-      (λ ba. by-c (at-more a (moved x (a +ℤ pos 1) (above r x (a +ℤ pos 1) a ax (omega (arith, one-more a))) (above q x (a +ℤ pos 1) b bx (omega (arith, one-more a))) m)))))
+      (λ ab. by-d (at-more b (moved x (b +ℤ pos 1) (above r x (b +ℤ pos 1) a ax (omega (arith, one-more b)))
+      (above q x (b +ℤ pos 1) b bx (omega (arith, one-more b))) m)))
+      (λ e. by-d (at-more b (moved x (b +ℤ pos 1)
+      (above r x (b +ℤ pos 1) a ax (omega (arith, one-more b, ap up e, ap dn e)))
+      (above q x (b +ℤ pos 1) b bx (omega (arith, one-more b))) m)))
+      (λ ba. by-c (at-more a (moved x (a +ℤ pos 1) (above r x (a +ℤ pos 1) a ax (omega (arith, one-more a)))
+      (above q x (a +ℤ pos 1) b bx (omega (arith, one-more a))) m)))))
     where
       a : ℤ
       a = c .constant
@@ -120,7 +131,10 @@ module _ (c d : Condition) where
   unfolding contradict
   contradict-says = (
     λ h. let (e, n) = and-out (eqb (c .variable) (d .variable)) _ h in
-        record { alike = eqb-true (c .variable) (d .variable) e; none-meets-both = λ x p q. clash (fellow x (p, q)) (not-out near n) },
+        record {
+          alike = eqb-true (c .variable) (d .variable) e;
+          none-meets-both = λ x p q. clash (fellow x (p, q)) (not-out near n);
+        },
     λ h. and-in (eq-eqb (c .variable) (d .variable) (h .alike)) (ap not (is-false near (λ k.
         or-out (metAbout c d (c .constant)) _ k
         (λ k. let (y, m) = about-out (c .constant) k in h .none-meets-both y (m .0) (m .1))

@@ -197,13 +197,27 @@ module _ (body : Body) (w : Onward body) where
       back (t, m) (inl (k, v, a)) =
           let real : p .second < body .count = inside (p .second) (p .outcome, t) m in
           let same : assignmentPair body (secondOf p) (p .first)
-          ≡ p = λ i. record { kind = sym k i; first = p .first; third = sym v i; second = p .second; outcome = p .outcome } in
+          ≡ p =
+          λ i. record {
+            kind = sym k i;
+            first = p .first;
+            third = sym v i;
+            second = p .second;
+            outcome = p .outcome;
+          } in
           into p t m (subst (λ (q : Pair). Mem q (pairsOf body (secondOf p))) same
           (assignment-in (secondOf p) real (p .first) (assigned-inside (p .first) (secondOf p) real a) a))
       back (t, m) (inr (k, c)) =
           let real : p .second < body .count = inside (p .second) (p .outcome, t) m in
           let same : edgePair (secondOf p) (p .first) (p .third, c .3 .0)
-          ≡ p = λ i. record { kind = sym k i; first = p .first; third = p .third; second = p .second; outcome = p .outcome } in
+          ≡ p =
+          λ i. record {
+            kind = sym k i;
+            first = p .first;
+            third = p .third;
+            second = p .second;
+            outcome = p .outcome;
+          } in
           into p t m (subst (λ (q : Pair). Mem q (pairsOf body (secondOf p))) same
           (edge-in (secondOf p) real (p .first) (p .third) c))
 

@@ -1,5 +1,5 @@
--- The effects of a block, one more at a time: what touches a variable, the last effect on it, and the list of a block's own within the body's. Rests on
--- form's Conflict.
+-- The effects of a block, one more at a time: what touches a variable, the last effect on it, and the list of a block's
+-- own within the body's. Rests on form's Conflict.
 use mathlib.Core.Path.{_≡_, refl, sym, ap, _∙_}
 use mathlib.Core.Logic.{_⊎_, inl, inr}
 use mathlib.Core.Bool.{Bool, true, false, not, cond, _||_, _&&_, or-false}
@@ -25,7 +25,8 @@ pub record Within (n from own r : ℕ) : Type 0 where
   pub room : from + r ≤ n
   pub all : (r ≡ own) ⊎ (from + r ≡ n)
 
-pub reached-next : (n below from own r : ℕ) → Reached n below from → Within n from own r → Reached n (below + own) (from + r)
+pub reached-next : (n below from own r : ℕ) → Reached n below from → Within n from own r
+    → Reached n (below + own) (from + r)
 reached-next n below from own r g w = go g (w .all)
   where
     go : Reached n below from → (r ≡ own) ⊎ (from + r ≡ n) → Reached n (below + own) (from + r)
@@ -42,8 +43,11 @@ module _ {A : Type 0} where
       assoc true b c = refl
       assoc false b c = refl
 
-  pub take-next : (l : List A) (from k : ℕ) (z : A) → from + k < length l → take (k + 1) (drop from l) ≡ take k (drop from l) ++ (getD l (from + k) z ∷ [])
-  take-next l from k z h = rw (add-one k) (take-suc (drop from l) k z (omega (arith, length-drop from l)) ∙ ap (λ (x : A). take k (drop from l) ++ (x ∷ [])) (getD-drop from l k z))
+  pub take-next : (l : List A) (from k : ℕ) (z : A) → from + k < length l
+      → take (k + 1) (drop from l) ≡ take k (drop from l) ++ (getD l (from + k) z ∷ [])
+  take-next l from k z h = rw (add-one k)
+      (take-suc (drop from l) k z (omega (arith, length-drop from l))
+      ∙ ap (λ (x : A). take k (drop from l) ++ (x ∷ [])) (getD-drop from l k z))
 
   drop-all : (n : ℕ) (l : List A) → length l ≤ n → drop n l ≡ []
   drop-all zero [] h = refl
@@ -54,32 +58,45 @@ module _ {A : Type 0} where
   drop-all (suc n) [] h = refl
   drop-all (suc n) (x ∷ l) h = drop-all n l (omega arith)
 
-  pub own-part : (l : List A) (n below from own r : ℕ) → length l ≡ n → Reached n below from → Within n from own r → take r (drop from l) ≡ take own (drop below l)
+  pub own-part : (l : List A) (n below from own r : ℕ) → length l ≡ n → Reached n below from → Within n from own r
+      → take r (drop from l) ≡ take own (drop below l)
   own-part l n below from own r size g w = go g (w .all)
     where
-      whole : (a b : ℕ) → length (drop from l) ≤ a → length (drop from l) ≤ b → take a (drop from l) ≡ take b (drop from l)
+      whole : (a b : ℕ) → length (drop from l) ≤ a → length (drop from l) ≤ b
+          → take a (drop from l) ≡ take b (drop from l)
       whole a b h k = take-all a (drop from l) h ∙ sym (take-all b (drop from l) k)
 
       go : Reached n below from → (r ≡ own) ⊎ (from + r ≡ n) → take r (drop from l) ≡ take own (drop below l)
       go (inl e) (inl q) = rw (← e, q)
-      go (inl e) (inr q) = rw (← e) (whole r own (omega (arith, length-drop from l)) (omega (arith, length-drop from l, w .few)))
-      go (inr e) p = rw (drop-all from l (omega (arith, e .0)), drop-all below l (omega (arith, e .1)), take-nil {A = A} r, take-nil {A = A} own)
+      go (inl e) (inr q) =
+          rw (← e) (whole r own (omega (arith, length-drop from l)) (omega (arith, length-drop from l, w .few)))
+      go (inr e) p =
+          rw (
+            drop-all from l (omega (arith, e .0)),
+            drop-all below l (omega (arith, e .1)),
+            take-nil {A = A} r,
+            take-nil {A = A} own,
+          )
 
-pub last-more : (v : ℕ) (l : List Effect) (a : Effect) → lastOn v (l ++ (a ∷ [])) ≡ later (lastOn v l) (cond (eqb (a .variable) v) (some a) none)
+pub last-more : (v : ℕ) (l : List Effect) (a : Effect)
+    → lastOn v (l ++ (a ∷ [])) ≡ later (lastOn v l) (cond (eqb (a .variable) v) (some a) none)
 unfolding lastOn
 last-more v [] a = by (eqb (a .variable) v)
   where
     by : (t : Bool) → later (cond t (some a) none) none ≡ later none (cond t (some a) none)
     by true = refl
     by false = refl
-last-more v (b ∷ l) a = ap (later (cond (eqb (b .variable) v) (some b) none)) (last-more v l a) ∙ assoc (cond (eqb (b .variable) v) (some b) none) (lastOn v l) (cond (eqb (a .variable) v) (some a) none)
+last-more v (b ∷ l) a = ap (later (cond (eqb (b .variable) v) (some b) none)) (last-more v l a)
+    ∙ assoc (cond (eqb (b .variable) v) (some b) none) (lastOn v l) (cond (eqb (a .variable) v) (some a) none)
   where
     assoc : (x y z : Option Effect) → later x (later y z) ≡ later (later x y) z
     assoc x y none = refl
     assoc x y (some e) = refl
 
 -- the last effect is the new one where that is on the variable
-refuses-later : (o : Option Effect) (t : Bool) (a : Effect) (c : Condition) → refuses (later o (cond t (some a) none)) c ≡ ((refuses o c && not t) || (t && (eqb (a .how) 1 && not (met c (a .constant)))))
+refuses-later : (o : Option Effect) (t : Bool) (a : Effect) (c : Condition)
+    → refuses (later o (cond t (some a) none)) c
+    ≡ ((refuses o c && not t) || (t && (eqb (a .how) 1 && not (met c (a .constant)))))
 refuses-later o true a c = other (refuses o c) (eqb (a .how) 1 && not (met c (a .constant)))
   where
     other : (p q : Bool) → q ≡ ((p && false) || q)
@@ -92,16 +109,21 @@ refuses-later o false a c = other (refuses o c)
     other false = refl
 
 pub refuses-more : (v : ℕ) (l : List Effect) (a : Effect) (c : Condition)
-    → refuses (lastOn v (l ++ (a ∷ []))) c ≡ ((refuses (lastOn v l) c && not (eqb (a .variable) v)) || (eqb (a .variable) v && (eqb (a .how) 1 && not (met c (a .constant)))))
-refuses-more v l a c = ap (λ (o : Option Effect). refuses o c) (last-more v l a) ∙ refuses-later (lastOn v l) (eqb (a .variable) v) a c
+    → refuses (lastOn v (l ++ (a ∷ []))) c
+    ≡ ((refuses (lastOn v l) c && not (eqb (a .variable) v))
+    || (eqb (a .variable) v && (eqb (a .how) 1 && not (met c (a .constant)))))
+refuses-more v l a c =
+    ap (λ (o : Option Effect). refuses o c) (last-more v l a) ∙ refuses-later (lastOn v l) (eqb (a .variable) v) a c
 
--- ---- the turn of a loop on words, at one bit: t for a test, r for refused so far, e for an effect on the variable, h for a constant, m for met
+-- ---- the turn of a loop on words, at one bit: t for a test, r for refused so far, e for an effect on the variable, h
+-- for a constant, m for met
 
 pub touch-turn : (t a e : Bool) → ((t && a) || (t && e)) ≡ (t && (a || e))
 touch-turn true a e = refl
 touch-turn false a e = refl
 
-pub deny-turn : (t r e h m : Bool) → (((t && r) && not (t && e)) || ((h && (t && e)) && not m)) ≡ (t && ((r && not e) || (e && (h && not m))))
+pub deny-turn : (t r e h m : Bool)
+    → (((t && r) && not (t && e)) || ((h && (t && e)) && not m)) ≡ (t && ((r && not e) || (e && (h && not m))))
 deny-turn true true true true m = refl
 deny-turn true true true false m = refl
 deny-turn true true false true m = refl

@@ -1,5 +1,5 @@
--- Steps of s up from 0 until a relation to a gap fails: the step after which it first fails, in closed form, and that within a
--- room. Rests on Relations.
+-- Steps of s up from 0 until a relation to a gap fails: the step after which it first fails, in closed form, and that
+-- within a room. Rests on Relations.
 use mathlib.Core.Path.{_≡_, refl, sym, ap, subst, _∙_}
 use mathlib.Core.Bool.{Bool, true, false, not, cond}
 use Prim.Native.Nat.{ℕ, zero, suc, _+_, _-_, _*_, _/_, _%_, _<_, _≤_}
@@ -36,7 +36,9 @@ pub not-both {ℓ} : {X : Type ℓ} {t : Bool} → t ≡ true → t ≡ false �
 not-both e f = absurd (subst T (sym e ∙ f) tt)
 
 -- a test that holds from `least` on and then fails does so at one place
-pub fails-once : (test : ℕ → Bool) (least k l : ℕ) → least ≤ k → least ≤ l → ((j : ℕ) → least ≤ j → j < k → test j ≡ true) → ((j : ℕ) → least ≤ j → j < l → test j ≡ true) → test k ≡ false → test l ≡ false → k ≡ l
+pub fails-once : (test : ℕ → Bool) (least k l : ℕ) → least ≤ k → least ≤ l
+    → ((j : ℕ) → least ≤ j → j < k → test j ≡ true) → ((j : ℕ) → least ≤ j → j < l → test j ≡ true) → test k ≡ false
+    → test l ≡ false → k ≡ l
 fails-once test least k l from-k from-l before-k before-l at-k at-l = go (ltb k l) (ltb l k) refl refl
   where
     neither : l ≤ k → k ≤ l → k ≡ l
@@ -59,7 +61,8 @@ later s (suc (suc (suc (suc (suc zero))))) gap = up gap / s + 1
 later s (suc (suc (suc (suc (suc (suc m)))))) gap = 0
 
 -- ≥, > and what is no relation never fail later
-pub later-never : (s relation : ℕ) (gap : ℤ) → (relation ≡ 0 → ⊥) → (relation ≡ 1 → ⊥) → (relation ≡ 2 → ⊥) → (relation ≡ 5 → ⊥) → later s relation gap ≡ 0
+pub later-never : (s relation : ℕ) (gap : ℤ) → (relation ≡ 0 → ⊥) → (relation ≡ 1 → ⊥) → (relation ≡ 2 → ⊥)
+    → (relation ≡ 5 → ⊥) → later s relation gap ≡ 0
 unfolding later
 later-never s zero gap n0 n1 n2 n5 = absurd (n0 refl)
 later-never s (suc zero) gap n0 n1 n2 n5 = absurd (n1 refl)
@@ -76,13 +79,17 @@ first s relation gap = cond (meets relation (pos s) gap) (later s relation gap) 
 unfoldable pub within : (s relation : ℕ) (gap : ℤ) (room : ℕ) → ℕ
 within s relation gap room = cond (leb (first s relation gap) (room / s)) (first s relation gap) 0
 
-pub within-room : (s relation : ℕ) (gap : ℤ) (room : ℕ) → first s relation gap ≤ room / s → within s relation gap room ≡ first s relation gap
+pub within-room : (s relation : ℕ) (gap : ℤ) (room : ℕ) → first s relation gap ≤ room / s
+    → within s relation gap room ≡ first s relation gap
 unfolding within
-within-room s relation gap room h = ap (λ (t : Bool). cond t (first s relation gap) 0) (le-leb (first s relation gap) (room / s) h)
+within-room s relation gap room h =
+    ap (λ (t : Bool). cond t (first s relation gap) 0) (le-leb (first s relation gap) (room / s) h)
 
-pub beyond-room : (s relation : ℕ) (gap : ℤ) (room : ℕ) → room / s < first s relation gap → within s relation gap room ≡ 0
+pub beyond-room : (s relation : ℕ) (gap : ℤ) (room : ℕ) → room / s < first s relation gap
+    → within s relation gap room ≡ 0
 unfolding within
-beyond-room s relation gap room h = ap (λ (t : Bool). cond t (first s relation gap) 0) (lt-leb (first s relation gap) (room / s) h)
+beyond-room s relation gap room h =
+    ap (λ (t : Bool). cond t (first s relation gap) 0) (lt-leb (first s relation gap) (room / s) h)
 
 -- ---- what it is the closed form of
 pub record First (s relation : ℕ) (gap : ℤ) (k : ℕ) : Type 0 where
@@ -92,7 +99,8 @@ pub record First (s relation : ℕ) (gap : ℤ) (k : ℕ) : Type 0 where
 
 pub first-once : (s relation : ℕ) (gap : ℤ) (k l : ℕ) → First s relation gap k → First s relation gap l → k ≡ l
 first-once s relation gap k l a b =
-    fails-once (λ j. meets relation (pos (s * j)) gap) 1 k l (a .once) (b .once) (a .again) (b .again) (a .ends) (b .ends)
+    fails-once (λ j. meets relation (pos (s * j)) gap) 1 k l (a .once) (b .once) (a .again) (b .again) (a .ends)
+    (b .ends)
 
 -- no step stands before the first
 pub none-before : (j : ℕ) → 1 ≤ j → j < 1 → ⊥
@@ -133,7 +141,8 @@ module _ (s : ℕ) (some : 0 < s) (gap : ℤ) where
 
   no-multiple : eqb (up gap % s) 0 ≡ false → (k : ℕ) → First s 1 gap k → ⊥
   no-multiple e =
-      never 1 (λ j k. ap not (ne-eqZ (pos (s * j)) gap (λ q. eqb-false (up gap % s) 0 e (ap (λ (n : ℕ). n % s) (is j k q) ∙ mul-mod-right s j))))
+      never 1 (λ j k. ap not (ne-eqZ (pos (s * j)) gap
+      (λ q. eqb-false (up gap % s) 0 e (ap (λ (n : ℕ). n % s) (is j k q) ∙ mul-mod-right s j))))
     where
       is : (j : ℕ) → 1 ≤ j → s * j + dn gap ≡ up gap + 0 → up gap ≡ s * j
       is j k q = omega (arith, no-dn gap (omega (arith, beyond j k)))
@@ -216,7 +225,8 @@ module _ (s : ℕ) (some : 0 < s) (gap : ℤ) where
   unfolding within
   within-found r room = go (first s r gap) (first-found r) (leb (first s r gap) (room / s)) refl
     where
-      go : (n : ℕ) → Found (First s r gap) n → (t : Bool) → leb n (room / s) ≡ t → Found (λ k. First s r gap k × (s * k ≤ room)) (cond t n 0)
+      go : (n : ℕ) → Found (First s r gap) n → (t : Bool) → leb n (room / s) ≡ t
+          → Found (λ k. First s r gap k × (s * k ≤ room)) (cond t n 0)
       go zero w true e = λ k p. w k (p .0)
       go zero w false e = λ k p. w k (p .0)
       go (suc n) w true e = (w, rw mul-comm (le-div-iff-mul-le some .0 (leb-true (suc n) (room / s) e)))

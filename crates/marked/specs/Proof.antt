@@ -113,7 +113,10 @@ every-out (x ∷ l) h c (inl e) = subst Claim (sym e) (law x (and-out (right x) 
 every-out (x ∷ l) h c (inr m) = every-out l (and-out (right x) (every l) h .1) c m
 
 all-right : every table ≡ true
-unfolding every right fits alike bytesOf countOf within first later contradict kindOf startsFor recordsFrom badField badTarget outOfPlace overLimit payloadFault recordFault endFault judgeEnds judgeRecords judge ownEffects gather fill block effectsBelow effectsOf touches lastOn exits isTest condition opposes denies paths conflict tails weight best bestRoute wayOf routeBytes
+unfolding every right fits alike bytesOf countOf within first later contradict kindOf startsFor recordsFrom badField
+    badTarget outOfPlace overLimit payloadFault recordFault endFault judgeEnds judgeRecords judge ownEffects gather fill
+    block effectsBelow effectsOf touches lastOn exits isTest condition opposes denies paths conflict tails weight best
+    bestRoute wayOf routeBytes
 all-right = refl
 
 pub marked : (c : Case) → Mem c table → Claim c

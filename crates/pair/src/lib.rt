@@ -1,5 +1,5 @@
-// The pair test of document 01: whether two conditions on one variable conflict. Constants are compared, never subtracted; the meaning is in specs/Pair.antt and in
-// form's Conflict.
+// The pair test of document 01: whether two conditions on one variable conflict. Constants are compared, never
+// subtracted; the meaning is in specs/Pair.antt and in form's Conflict.
 ghost use mathlib.Core.Path.{_≡_};
 ghost use lib.Signed.{ltZ};
 ghost use Rattle.lower_laws.specs.PairTest.{low, level, high, apart, someOf};

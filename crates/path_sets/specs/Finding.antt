@@ -232,7 +232,15 @@ module _ (body : Body) (sound : Sound body) where
   -- ---- all of it
   abbrev foundWith : Local → (jumped fallen : Firsts) → Edges → Found
   foundWith own jumped fallen x = record {
-    sets = record { targets = own .targets; touched = own .touched; denied = own .denied; jumping = own .jumping; falling = own .falling; listed = x };
+    sets =
+        record {
+          targets = own .targets;
+          touched = own .touched;
+          denied = own .denied;
+          jumping = own .jumping;
+          falling = own .falling;
+          listed = x;
+        };
     variable = own .variable;
     jumped = jumped;
     fallen = fallen;

@@ -1,4 +1,5 @@
-// What both ways start from. The plan of a body: what the walks need of each block, 16 words a block (theory's Plan), from the body's costs and the sets of its conflicts.
+// What both ways start from. The plan of a body: what the walks need of each block, 16 words a block (theory's Plan),
+// from the body's costs and the sets of its conflicts.
 ghost use mathlib.Core.Path.{_≡_};
 ghost use Prim.Native.Nat.{ℕ, _+_, _*_, _≤_, _<_};
 ghost use lib.Dec.{eqb};
@@ -75,7 +76,8 @@ pub fn plan_of(body: form::Body) -> [u64; 1024]
     plan
 }
 
-// The plan of a form's body, with the number of its blocks and its loop count; or, with no block, the refusal's number and place. Number 0: no refusal.
+// The plan of a form's body, with the number of its blocks and its loop count; or, with no block, the refusal's number
+// and place. Number 0: no refusal.
 pub struct Prepared {
     pub number: u32,
     pub place: usize,

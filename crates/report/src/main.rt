@@ -1,6 +1,7 @@
-// The report program: a form on standard input, document 01's lines on standard output, a refusal alone. The text is put together first (report, whose contract
-// is Report.Reported) and then written. It reads 4,096 bytes at most: no form is longer than 3,665 bytes, and any input is judged by its first 3,682
-// (roundtrip.Front.front), so what is not read changes no answer (Promise.any-length). A read that fails counts as the end of the input.
+// The report program: a form on standard input, document 01's lines on standard output, a refusal alone. The text is
+// put together first (report, whose contract is Report.Reported) and then written. It reads 4,096 bytes at most: no
+// form is longer than 3,665 bytes, and any input is judged by its first 3,682 (roundtrip.Front.front), so what is not
+// read changes no answer (Promise.any-length). A read that fails counts as the end of the input.
 ghost use mathlib.Core.Path.{_≡_};
 ghost use Prim.Native.Nat.{_+_, _≤_};
 ghost use lib.ListN.{length, take};

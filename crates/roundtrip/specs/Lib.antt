@@ -7,9 +7,9 @@
 --   Front      the first 3,682 bytes of any input decide how it is judged and read; an accepted form has at most 3,665
 --   Refusals   which refusals the reader and the writer can give
 --   Unique     one answer and one content of the lent bytes for each call; bodies that are the same up to their counts
--- The rest is their proof, in the folder laying but for Acceptance: numbers and bytes (Digits), one record of each kind (Kinds), filled arrays (Filled),
--- acceptance record by record (Acceptance), bytes laid out record by record (Laid), and the two trips over bytes and
--- bodies (WriteBack, ReadBack).
+-- The rest is their proof, in the folder laying but for Acceptance: numbers and bytes (Digits), one record of each kind
+-- (Kinds), filled arrays (Filled), acceptance record by record (Acceptance), bytes laid out record by record (Laid),
+-- and the two trips over bytes and bodies (WriteBack, ReadBack).
 pub mod laying
 pub mod Acceptance
 pub mod Sound

@@ -269,7 +269,8 @@ at-targets :
     → Mem o (exitsBy ending jump fall) → P (o .1)
 at-targets P ending jump fall =
     by-ending jump fall (λ e l. (0 < e → P jump) → (1 < e → P fall) → (o : ℕ × ℕ) → Mem o l → P (o .1))
-    (λ j f o m. absurd m) (λ j f o m. one (j (omega arith)) o m) (λ j f o m. both (j (omega arith)) (f (omega arith)) o m)
+    (λ j f o m. absurd m) (λ j f o m. one (j (omega arith)) o m)
+    (λ j f o m. both (j (omega arith)) (f (omega arith)) o m)
     (λ j f o m. both (j (omega arith)) (f (omega arith)) o m) (λ above h j f o m. absurd m) ending
   where
     one : P jump → (o : ℕ × ℕ) → Mem o ((1, jump) ∷ []) → P (o .1)
@@ -282,7 +283,8 @@ at-targets P ending jump fall =
 -- a block that does not end is left by jump
 left-by-jump : (ending jump fall : ℕ) → 0 < ending → ending ≤ 3 → Mem (1, jump) (exitsBy ending jump fall)
 left-by-jump ending jump fall =
-    by-ending jump fall (λ e l. 0 < e → e ≤ 3 → Mem (1, jump) l) (λ some few. absurd (omega arith)) (λ some few. inl refl)
+    by-ending jump fall (λ e l. 0 < e → e ≤ 3 → Mem (1, jump) l) (λ some few. absurd (omega arith))
+    (λ some few. inl refl)
     (λ some few. inl refl) (λ some few. inl refl) (λ above h some few. absurd (omega arith)) ending
 
 module _ (body : Body) (w : WellFormed body) where

@@ -1,4 +1,5 @@
--- Records and bodies as bytes: numbers and bytes, one record of each kind, filled arrays, bytes laid out record by record, and the two trips.
+-- Records and bodies as bytes: numbers and bytes, one record of each kind, filled arrays, bytes laid out record by
+-- record, and the two trips.
 pub mod Digits
 pub mod Kinds
 pub mod Filled

@@ -1,1 +1,2 @@
-// Mathematics only: no function stands here. That what is read writes back, and what is written reads back, is in specs/.
+// Mathematics only: no function stands here. That what is read writes back, and what is written reads back, is in
+// specs/.

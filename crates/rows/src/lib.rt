@@ -1,5 +1,5 @@
-// Rows in local memory, as numbers: a step in front of a tail, the row of the last block, and the row of a block made of
-// its targets' rows. How an entry lies in a row's words is known in crate entries alone.
+// Rows in local memory, as numbers: a step in front of a tail, the row of the last block, and the row of a block made
+// of its targets' rows. How an entry lies in a row's words is known in crate entries alone.
 ghost use mathlib.Core.Path.{_≡_};
 ghost use mathlib.Core.Bool.{cond};
 ghost use Prim.Native.Nat.{_+_, _^_, _<_, _≤_};
@@ -12,8 +12,9 @@ ghost use Rattle.rows.specs.Begun.{zeroRow, Holds, begunWith};
 use entries::Entry;
 use plan_words::Way;
 
-// One side of a step in front of tails, which leaves a block by a way: of the jump edges, or of the fall edges, those that it conflicts with, those that the
-// block's effects deny, its own where the block tests, those that stay open; and its block, where it is left by this side's way.
+// One side of a step in front of tails, which leaves a block by a way: of the jump edges, or of the fall edges, those
+// that it conflicts with, those that the block's effects deny, its own where the block tests, those that stay open; and
+// its block, where it is left by this side's way.
 struct Side {
     against: u64,
     denied: u64,
@@ -109,7 +110,8 @@ fn tail_of(first: &[u64], second: &[u64], way: usize, i: usize) -> Entry
     entries::entry_at(second, i)
 }
 
-// The tails of b into its row, by each way those of the target's row, until the 65th set appears; how many are held then.
+// The tails of b into its row, by each way those of the target's row, until the 65th set appears; how many are held
+// then.
 pub fn build(
     plan: &[u64],
     b: usize,
@@ -144,7 +146,8 @@ pub fn build(
     held
 }
 
-// The row begins empty, but for the last block's, which has its own entry: no edge, its cost and no block that is left. How many are held.
+// The row begins empty, but for the last block's, which has its own entry: no edge, its cost and no block that is left.
+// How many are held.
 pub fn begin(plan: &[u64], b: usize, count: usize, row: &mut [u64]) -> usize
     requires { ⌜ (length (now plan) ≡ 1024) × ((b < 64) × (now row ≡ zeroRow)) ⌝ }
     ensures { λ r. ⌜ Holds (begunWith (now (plan .entry)) count b) (now (row .exit)) r ⌝ }

@@ -1,6 +1,6 @@
 // The sweep's steps over rows of numbers, and what the sweep owes (specs/Answer.antt): which rows a block's row is made
-// of, the row itself, what follows it, and the answer from row 0. Nothing here has a slice of structs, and all is covered;
-// crate sweep puts these steps together over the lent table.
+// of, the row itself, what follows it, and the answer from row 0. Nothing here has a slice of structs, and all is
+// covered; crate sweep puts these steps together over the lent table.
 ghost use mathlib.Core.Path.{_≡_};
 ghost use Prim.Native.Nat.{ℕ, suc, max, min, _*_, _-_, _^_, _<_, _≤_};
 ghost use lib.ListN.{length, getD};
@@ -37,7 +37,8 @@ pub fn entry_of(words: &[u64], k: usize) -> Entry
     entries::entry_at(words, k)
 }
 
-// Where the drive stands: whether it goes on, the blocks to come, the longest row so far, the length of the last row made, and that of each row that is complete.
+// Where the drive stands: whether it goes on, the blocks to come, the longest row so far, the length of the last row
+// made, and that of each row that is complete.
 pub struct Drive {
     pub going: bool,
     pub b: usize,
@@ -46,7 +47,8 @@ pub struct Drive {
     pub lengths: [u8; 64],
 }
 
-// What the next block's row is made of: the block, and by each way the first entry of the target's row and how many it has.
+// What the next block's row is made of: the block, and by each way the first entry of the target's row and how many it
+// has.
 pub struct Sources {
     pub b: usize,
     pub jump: usize,
@@ -55,7 +57,8 @@ pub struct Sources {
     pub falls: usize,
 }
 
-// A row that is made: how many entries it has, or 65 where it is crowded; where it goes and how many entries of it; its words.
+// A row that is made: how many entries it has, or 65 where it is crowded; where it goes and how many entries of it; its
+// words.
 pub struct Built {
     pub held: usize,
     pub from: usize,
@@ -199,7 +202,8 @@ pub fn finish(at: Drive) -> Swept
     }
 }
 
-// The sweep's answer: the loop count, the weight of the first heaviest route, count times weight, and the longest row; or the refusal's number and place.
+// The sweep's answer: the loop count, the weight of the first heaviest route, count times weight, and the longest row;
+// or the refusal's number and place.
 pub enum SweepAnswer {
     Routed {
         iterations: u64,

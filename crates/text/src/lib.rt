@@ -1,4 +1,5 @@
-// The report's text, put together in lent bytes: each function adds to what stands there before `at`, and answers where its text ends.
+// The report's text, put together in lent bytes: each function adds to what stands there before `at`, and answers where
+// its text ends.
 ghost use mathlib.Core.Path.{_≡_};
 ghost use Prim.Native.Nat.{_+_, _≤_};
 ghost use lib.ListN.{length};

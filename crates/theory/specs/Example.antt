@@ -30,12 +30,30 @@ use Rattle.theory.specs.runs.RunWide.{go-left, test-left}
 -- cost, number of effects, jump
 abbrev goesTo : ℕ → ℕ → ℕ → Block
 goesTo cost effects jump =
-    record { cost = cost; ending = 1; jump = jump; fall = 0; variable = 0; relation = 0; constant = pos 0; effects = effects }
+    record {
+      cost = cost;
+      ending = 1;
+      jump = jump;
+      fall = 0;
+      variable = 0;
+      relation = 0;
+      constant = pos 0;
+      effects = effects;
+    }
 
 -- cost, variable, relation, constant, jump, fall
 abbrev asks : ℕ → ℕ → ℕ → ℤ → ℕ → ℕ → Block
 asks cost variable relation constant jump fall =
-    record { cost = cost; ending = 3; jump = jump; fall = fall; variable = variable; relation = relation; constant = constant; effects = 0 }
+    record {
+      cost = cost;
+      ending = 3;
+      jump = jump;
+      fall = fall;
+      variable = variable;
+      relation = relation;
+      constant = constant;
+      effects = 0;
+    }
 
 abbrev sets : ℕ → ℤ → Effect
 sets variable constant = record { variable = variable; how = 1; constant = constant }
@@ -54,7 +72,8 @@ example = record {
 }
 
 pub list : conflictBytes example ≡ 2 ∷ 0 ∷ 1 ∷ 3 ∷ 1 ∷ 1 ∷ 2 ∷ 1 ∷ 5 ∷ 1 ∷ 1 ∷ 1 ∷ 1 ∷ 5 ∷ 2 ∷ []
-unfolding block effectsBelow effectsOf touches lastOn exits isTest condition contradict opposes denies clean assigned crossed pairsOf conflicts conflictBytes
+unfolding block effectsBelow effectsOf touches lastOn exits isTest condition contradict opposes denies clean assigned
+    crossed pairsOf conflicts conflictBytes
 list = refl
 
 abbrev pairs : List Pair
@@ -64,7 +83,8 @@ pairs =
     ∷ record { kind = 1; first = 1; third = 1; second = 5; outcome = 2 } ∷ []
 
 pub pairs-are : conflicts example ≡ pairs
-unfolding block effectsBelow effectsOf touches lastOn exits isTest condition contradict opposes denies clean assigned crossed pairsOf conflicts
+unfolding block effectsBelow effectsOf touches lastOn exits isTest condition contradict opposes denies clean assigned
+    crossed pairsOf conflicts
 pairs-are = refl
 
 -- the three conflict-free routes, in order
@@ -72,7 +92,8 @@ pub routes-are : routes example
     ≡ ((0, 1) ∷ (2, 1) ∷ (3, 2) ∷ (5, 2) ∷ (6, 1) ∷ [])
     ∷ ((0, 2) ∷ (1, 1) ∷ (3, 1) ∷ (4, 1) ∷ (5, 1) ∷ [])
     ∷ ((0, 2) ∷ (1, 1) ∷ (3, 2) ∷ (5, 1) ∷ []) ∷ []
-unfolding block effectsBelow effectsOf touches lastOn exits isTest condition contradict opposes denies paths conflict tails
+unfolding block effectsBelow effectsOf touches lastOn exits isTest condition contradict opposes denies paths conflict
+    tails
 routes-are = refl
 
 pub best-is : routeOn example (dearest example) ≡ some (43, (0, 1) ∷ (2, 1) ∷ (3, 2) ∷ (5, 2) ∷ (6, 1) ∷ [])
@@ -85,7 +106,8 @@ unfolding routeBytes wayOf
 bytes-are = refl
 
 pub walked-is : walked example ≡ 13
-unfolding block effectsBelow effectsOf touches lastOn exits isTest condition contradict opposes denies conflict beginnings walked
+unfolding block effectsBelow effectsOf touches lastOn exits isTest condition contradict opposes denies conflict
+    beginnings walked
 walked-is = refl
 
 abbrev rowAt : ℕ → List Entry
@@ -105,11 +127,13 @@ pub rows-are : map rowAt (range 0 8)
     ∷ (entry 0 32 23 64 32 ∷ entry 32 0 5 32 0 ∷ [])
     ∷ (entry 0 0 19 64 0 ∷ [])
     ∷ (entry 0 0 1 0 0 ∷ []) ∷ []
-unfolding block effectsBelow effectsOf touches lastOn exits isTest condition contradict opposes denies conflict paths tails weight best listed bare openEdges addKey keys rowOf openTails leftBy row setOf
+unfolding block effectsBelow effectsOf touches lastOn exits isTest condition contradict opposes denies conflict paths
+    tails weight best listed bare openEdges addKey keys rowOf openTails leftBy row setOf
 rows-are = refl
 
 four-at-most : longest rowAt 8 ≡ 4
-unfolding block effectsBelow effectsOf touches lastOn exits isTest condition contradict opposes denies conflict paths tails weight best listed bare openEdges addKey keys rowOf openTails leftBy row setOf longest
+unfolding block effectsBelow effectsOf touches lastOn exits isTest condition contradict opposes denies conflict paths
+    tails weight best listed bare openEdges addKey keys rowOf openTails leftBy row setOf longest
 four-at-most = refl
 
 pub kept-is : kept example (stepCost example) heavier ≡ 4
@@ -117,7 +141,8 @@ unfolding kept
 kept-is = ap (λ l. longest (row example l (stepCost example) heavier) 8) pairs-are ∙ four-at-most
 
 none-crowded : highest rowAt 8 ≡ none
-unfolding block effectsBelow effectsOf touches lastOn exits isTest condition contradict opposes denies conflict paths tails weight best listed bare openEdges addKey keys rowOf openTails leftBy row setOf highest
+unfolding block effectsBelow effectsOf touches lastOn exits isTest condition contradict opposes denies conflict paths
+    tails weight best listed bare openEdges addKey keys rowOf openTails leftBy row setOf highest
 none-crowded = refl
 
 pub crowded-is : crowded example (stepCost example) heavier ≡ none

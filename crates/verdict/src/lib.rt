@@ -1,6 +1,6 @@
-// What the reader says of any bytes: the verdict, 10 to 19 with its place, or accepted. The records are decoded in crate
-// records, and judged by themselves in crate faults; here is their order, and what is judged of the whole form. What each
-// function means is in form's Form and Answer.
+// What the reader says of any bytes: the verdict, 10 to 19 with its place, or accepted. The records are decoded in
+// crate records, and judged by themselves in crate faults; here is their order, and what is judged of the whole form.
+// What each function means is in form's Form and Answer.
 ghost use mathlib.Core.Path.{_≡_};
 ghost use Prim.Native.Nat.{_+_, _<_, _≤_, _^_};
 ghost use lib.ListN.{length};

@@ -1,5 +1,5 @@
--- Loops over the numbers of a word, least first, and loops that sort numbers into words by a key: where the loop stands, its start, its turn and its end.
--- Rests on Sets and Filled.
+-- Loops over the numbers of a word, least first, and loops that sort numbers into words by a key: where the loop
+-- stands, its start, its turn and its end. Rests on Sets and Filled.
 use mathlib.Core.Path.{_≡_, refl, sym, ap, ap₂, subst, _∙_}
 use mathlib.Core.Bool.{Bool, true, false, not, _&&_, _||_, and-true, and-false, or-false}
 use mathlib.Core.List.{List}
@@ -39,8 +39,10 @@ module _ (f : ℕ → Bool) (word : ℕ) where
       none false b = refl
 
   pub sifted-more :
-      (left result left′ result′ at : ℕ) (t : Bool) → Sifted f word left result → left < 2 ^ 64 → 0 < left → at ≡ least left → t ≡ f at
-      → ((k : ℕ) → bit result′ k ≡ bit result k || (t && eqb k at)) → ((k : ℕ) → bit left′ k ≡ bit left k && not (eqb k (trailingZeros 64 left)))
+      (left result left′ result′ at : ℕ) (t : Bool) → Sifted f word left result → left < 2 ^ 64 → 0 < left
+      → at ≡ least left → t ≡ f at
+      → ((k : ℕ) → bit result′ k ≡ bit result k || (t && eqb k at))
+      → ((k : ℕ) → bit left′ k ≡ bit left k && not (eqb k (trailingZeros 64 left)))
       → Sifted f word left′ result′
   sifted-more left result left′ result′ at t s fits some lowest e new less = record { part = part; out = out }
     where
@@ -71,7 +73,8 @@ module _ (f : ℕ → Bool) (word : ℕ) where
           other : eqb k at ≡ false → (bit result k || (t && eqb k at)) ≡ ((bit word k && not (bit left′ k)) && f k)
           other q = rw (less-at k, q, and-false t, or-false (bit result k), and-true (bit left k)) (s .out k)
 
-  pub sifted-end : (left result : ℕ) → Sifted f word left result → left ≡ 0 → (k : ℕ) → bit result k ≡ (bit word k && f k)
+  pub sifted-end : (left result : ℕ) → Sifted f word left result → left ≡ 0 → (k : ℕ)
+      → bit result k ≡ (bit word k && f k)
   sifted-end left result s e k = s .out k ∙ rw (e, bit-none k, and-true (bit word k))
 
 -- ---- a list of n words: the numbers with a test, each in the word at its key
@@ -84,7 +87,8 @@ module _ (n : ℕ) (key : ℕ → ℕ) (test : ℕ → Bool) where
   pub sorted-none : Sorted n key test 0 (replicate n 0)
   sorted-none = record {
     size = length-replicate n 0;
-    at = λ v h. subst (Upto (λ j. test j && eqb (key j) v) 0) (sym (getD-replicate n v 0 0 h)) (upto-none (λ j. test j && eqb (key j) v));
+    at = λ v h. subst (Upto (λ j. test j && eqb (key j) v) 0) (sym (getD-replicate n v 0 0 h))
+        (upto-none (λ j. test j && eqb (key j) v));
   }
 
   pub sorted-more :
@@ -108,16 +112,19 @@ module _ (n : ℕ) (key : ℕ → ℕ) (test : ℕ → Bool) where
           here q =
               let same = eqb-true v w q in
               upto-more (λ j. test j && eqb (key j) v) i (getD l v 0) _ t (s .at v m) (sym (and-true t) ∙ goes true q)
-              (λ j. ap (λ (y : ℕ). bit y j) (ap (λ (p : ℕ). getD (set l w x) p 0) same ∙ getD-set-same l w x 0 room) ∙ new j ∙ ap (λ (p : ℕ). bit (getD l p 0) j || (t && eqb j i)) (sym same))
+              (λ j. ap (λ (y : ℕ). bit y j) (ap (λ (p : ℕ). getD (set l w x) p 0) same ∙ getD-set-same l w x 0 room)
+              ∙ new j ∙ ap (λ (p : ℕ). bit (getD l p 0) j || (t && eqb j i)) (sym same))
 
           other : eqb v w ≡ false → Upto (λ j. test j && eqb (key j) v) (i + 1) (getD (set l w x) v 0)
           other q =
               let differ = eqb-false v w q in
-              upto-more (λ j. test j && eqb (key j) v) i (getD l v 0) _ false (s .at v m) (sym (and-false t) ∙ goes false q)
+              upto-more (λ j. test j && eqb (key j) v) i (getD l v 0) _ false (s .at v m)
+              (sym (and-false t) ∙ goes false q)
               (λ j. ap (λ (y : ℕ). bit y j) (getD-set-other l w v x 0 differ) ∙ sym (or-false (bit (getD l v 0) j)))
 
   pub sorted-end :
-      (i : ℕ) (l : List ℕ) → ((j : ℕ) → i ≤ j → test j ≡ false) → Sorted n key test i l → (v : ℕ) → v < n → (j : ℕ) → bit (getD l v 0) j ≡ (test j && eqb (key j) v)
+      (i : ℕ) (l : List ℕ) → ((j : ℕ) → i ≤ j → test j ≡ false) → Sorted n key test i l → (v : ℕ) → v < n → (j : ℕ)
+      → bit (getD l v 0) j ≡ (test j && eqb (key j) v)
   sorted-end i l off s v h = upto-end (λ j. test j && eqb (key j) v) i (getD l v 0) (λ j m. rw (off j m)) (s .at v h)
 
 -- ---- a word's least number
@@ -130,7 +137,8 @@ beyond : (a b : ℕ) → b ≤ a → (a ≡ b → ⊥) → b < a
 beyond a b l differ = omega arith
 
 -- Below b + 1 there is one: below b, or b is the least.
-pub any-least : (x b at : ℕ) → x < 2 ^ 64 → (0 < x → at ≡ trailingZeros 64 x) → any (b + 1) (bit x) ≡ (any b (bit x) || (not (eqb x 0) && eqb at b))
+pub any-least : (x b at : ℕ) → x < 2 ^ 64 → (0 < x → at ≡ trailingZeros 64 x)
+    → any (b + 1) (bit x) ≡ (any b (bit x) || (not (eqb x 0) && eqb at b))
 any-least x b at fits least = any-last b (bit x) ∙ split (eqb x 0) none some
   where
     none : eqb x 0 ≡ true → (any b (bit x) || bit x b) ≡ (any b (bit x) || (not (eqb x 0) && eqb at b))
@@ -143,7 +151,8 @@ any-least x b at fits least = any-last b (bit x) ∙ split (eqb x 0) none some
         is = least (positive x (eqb-false x 0 q))
 
         there : bit x at ≡ true
-        there = subst (λ (k : ℕ). bit x k ≡ true) (sym is) (trailing-at 64 x (trailing-lt 64 fits (positive x (eqb-false x 0 q))))
+        there = subst (λ (k : ℕ). bit x k ≡ true) (sym is)
+            (trailing-at 64 x (trailing-lt 64 fits (positive x (eqb-false x 0 q))))
 
         last : any b (bit x) ≡ false → bit x b ≡ eqb at b
         last e = split (eqb at b)

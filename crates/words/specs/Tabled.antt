@@ -1,4 +1,5 @@
--- Lists of a length by a function, rows of sets, a word's least number: what contracts say of words and arrays of them. Trusted: definitions only. Rests on the laws' Terms.
+-- Lists of a length by a function, rows of sets, a word's least number: what contracts say of words and arrays of them.
+-- Trusted: definitions only. Rests on the laws' Terms.
 use mathlib.Core.Bool.{Bool, cond}
 use mathlib.Core.List.{List, map}
 use Prim.Native.Nat.{ℕ}

@@ -12,7 +12,8 @@ rem-result : tie.Need-rem-result
 rem-result c = quot-asks (c .args .a) (c .args .b) (c .fits .a) (c .fits .b) (c .pre .0) (c .pre .1)
 
 returns : tie.Need-returns
-returns c = ap (λ (z : ℤ). eqb (ofZ w64 z) 0) (rem-gives (c .args .a) (c .args .b) (c .fits .a) (c .fits .b) (c .pre .0) (c .pre .1))
+returns c = ap (λ (z : ℤ). eqb (ofZ w64 z) 0)
+    (rem-gives (c .args .a) (c .args .b) (c .fits .a) (c .fits .b) (c .pre .0) (c .pre .1))
 
 pub divides-spec : {M : Type 1} → statement M
 divides-spec = tie.close (tie.spec rem-result returns)

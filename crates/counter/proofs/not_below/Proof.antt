@@ -35,7 +35,12 @@ is c = c .quotient .ensures ∙ (λ i. up (given (c .before) i) / up (toZ-ofZ (c
 add-result : tie.Need-add-result
 add-result c =
     let s = c .before in
-    omega (arith, is c, div-le-self (up (s .args .gap) - 1) (up (s .args .step)), sfits-up (s .args .gap) (s .fits .gap))
+    omega (
+      arith,
+      is c,
+      div-le-self (up (s .args .gap) - 1) (up (s .args .step)),
+      sfits-up (s .args .gap) (s .fits .gap),
+    )
 
 returns : tie.Need-returns
 unfolding later

@@ -1,4 +1,5 @@
--- `counter::wide` meets its contract. A signed local holds bits, and what is read back from them is the number where it fits.
+-- `counter::wide` meets its contract. A signed local holds bits, and what is read back from them is the number where it
+-- fits.
 use mir.Facts.{toZ-ofZ, sfits-widen}
 use mir.Syntax.{w32, w64}
 use mir.Val.{SFits}

@@ -15,7 +15,8 @@ returns c =
     let listed = c .before .before .before .conflicts in (
       c .of-listed .ensures ∙ ap listNumbers (listed .ensures .0),
       listed .ensures .1 .0
-          ∙ ap (λ (r : Listed). heldAfter r (conflictBytes (bodyOf (start .args .bytes .now))) (start .args .out .now)) (listed .ensures .0),
+          ∙ ap (λ (r : Listed). heldAfter r (conflictBytes (bodyOf (start .args .bytes .now))) (start .args .out .now))
+          (listed .ensures .0),
     )
 
 pub somniaret-conflicts-spec : {M : Type 1} → statement M

@@ -9,7 +9,8 @@ use Rattle.desk.proofs.somniaret_pair.Tie as tie
 -- what the pair test said of the numbers that this was asked with
 said :
     (c : tie.After-conflicting)
-    → c .conflicting .result ≡ conflicting (c .before .args .relation1) (c .before .args .constant1) (c .before .args .relation2) (c .before .args .constant2)
+    → c .conflicting .result ≡ conflicting (c .before .args .relation1) (c .before .args .constant1)
+    (c .before .args .relation2) (c .before .args .constant2)
 said c = rw (toZ-ofZ (c .before .fits .constant1), toZ-ofZ (c .before .fits .constant2)) at (c .conflicting .ensures)
 
 returns : tie.Need-returns

@@ -1,4 +1,5 @@
--- `desk::somniaret_rewrite` meets its contract: a refused form is answered by its verdict, an accepted one by the writer.
+-- `desk::somniaret_rewrite` meets its contract: a refused form is answered by its verdict, an accepted one by the
+-- writer.
 use mathlib.Core.Bool.{Bool, true}
 use mathlib.Core.Path.{_≡_, ap, sym, _∙_}
 use borrow.Author.Tests.{not-true, not-false}
@@ -33,7 +34,8 @@ returns-2 c =
     let wrote = c .before .before .before in
     let tested = wrote .before .before .before .before in
     let read = tested .before in
-    let accepting = ap accepted (sym (verdict-is read)) ∙ (sym (tested .accepts .ensures) ∙ not-false _ (wrote .before .before .before .if1 .left)) in
+    let accepting = ap accepted (sym (verdict-is read))
+    ∙ (sym (tested .accepts .ensures) ∙ not-false _ (wrote .before .before .before .if1 .left)) in
     let body = body-is read accepting in
     let out = read .before .before .before .args .out .now in
     let answer = wrote .write .ensures .0 ∙ ap (λ (b : Body). written b (length out)) body in (

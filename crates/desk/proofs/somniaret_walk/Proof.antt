@@ -10,7 +10,8 @@ returns c =
     let start = c .before .before .before .before .before .before .before in
     let walked = c .before .before .before in
     subst
-    (λ (v : Values). WalkOwed (start .args .bytes .now) (start .args .budget) (start .args .route .now) (v, walked .walk .last .1 .1 .0))
+    (λ (v : Values). WalkOwed (start .args .bytes .now) (start .args .budget) (start .args .route .now)
+    (v, walked .walk .last .1 .1 .0))
     (sym (c .of-walk .ensures)) (walked .walk .ensures)
 
 pub somniaret-walk-spec : {M : Type 1} → statement M

@@ -42,7 +42,8 @@ loop-again c =
     let at-loop = made .before .before .before in
     let start = at-loop .before .before in
     let rest = drop (start .args .from) (start .args .t3) in
-    let in-effects : at-loop .loop .j < length rest = simp length-drop (omega (arith, start .good .1 .1 .0 .1 .0 .1)) in (
+    let in-effects : at-loop .loop .j < length rest =
+    simp length-drop (omega (arith, start .good .1 .1 .0 .1 .0 .1)) in (
       rw (copied .put .ensures .0 .0, copied .put .ensures .0 .1, add-one (at-loop .loop .j))
           (effects-laid (at-loop .loop .buf) _ (take (start .args .at) (start .args .buf .now)) (at-loop .loop .to) rest
           (at-loop .loop .j)

@@ -1,4 +1,5 @@
--- `put` meets its contract. The loop's invariant: the first j bytes are pasted in. The measure is what is left of the bytes.
+-- `put` meets its contract. The loop's invariant: the first j bytes are pasted in. The measure is what is left of the
+-- bytes.
 use mathlib.Core.Path.{_≡_, sym, ap, _∙_}
 use Prim.Native.Nat.{ℕ, suc, _≤_, _-_, _+_}
 use native.Mathlib.Numerals.{add-one}
@@ -23,7 +24,8 @@ loop-again c =
     let at-loop = c .before .before in
     let start = at-loop .before in (
       rw (at-loop .loop .inv .0, add-one)
-          (paste-suc (start .args .out .now) (start .args .at) (start .args .bytes .now) (at-loop .loop .j) 0 (omega arith) (omega arith)),
+          (paste-suc (start .args .out .now) (start .args .at) (start .args .bytes .now) (at-loop .loop .j) 0
+          (omega arith) (omega arith)),
       (omega arith, simp length-set (at-loop .loop .inv .1 .1)),
     )
 
@@ -42,5 +44,6 @@ returns c =
 pub put-spec : {M : Type 1} → statement M
 put-spec =
     tie.close
-    (tie.spec Inv-loop μ-loop loop-holds (λ c. omega arith) (λ c. omega arith) (λ c. omega arith) (λ c. omega arith) (λ c. omega arith) loop-again (λ c. omega arith) same-length
+    (tie.spec Inv-loop μ-loop loop-holds (λ c. omega arith) (λ c. omega arith) (λ c. omega arith) (λ c. omega arith)
+    (λ c. omega arith) loop-again (λ c. omega arith) same-length
     returns)

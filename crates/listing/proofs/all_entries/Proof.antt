@@ -30,7 +30,8 @@ edge-entries-requires c κs =
 
 edge-entries-requires-2 : tie.Need-edge-entries-requires-2 Inv-loop μ-loop
 edge-entries-requires-2 c κs =
-    let at = c .before .before .before .before .before .before .before .before .before .before .before .before .before in
+    let at =
+    c .before .before .before .before .before .before .before .before .before .before .before .before .before in
     let start = at .before .before .before .before .before .before .before .before .before in
     let a = start .args in
     let first = c .before .before .before .before .before .before in
@@ -41,7 +42,9 @@ edge-entries-requires-2 c κs =
 
 loop-again : tie.Need-loop-again Inv-loop μ-loop
 loop-again c =
-    let at = c .before .before .before .before .before .before .before .before .before .before .before .before .before .before .before .before in
+    let at =
+    c .before .before .before .before .before .before .before .before .before
+    .before .before .before .before .before .before .before in
     let a = at .before .before .before .before .before .before .before .before .before .args in
     let first = c .before .before .before .before .before .before .before .before .before in
     let second = c .before .before in (

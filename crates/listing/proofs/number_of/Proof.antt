@@ -32,7 +32,13 @@ loop-again c =
     λ i. at .loop .inv .2 i + (c .before .before .before .before .ones .ensures .0 i +
     (c .before .before .ones2 .ensures .0 i + c .ones3 .ensures .0 i)) in (
       omega arith,
-      omega (arith, c .before .before .before .before .ones .ensures .1, c .before .before .ones2 .ensures .1, c .ones3 .ensures .1, at .loop .inv .1),
+      omega (
+        arith,
+        c .before .before .before .before .ones .ensures .1,
+        c .before .before .ones2 .ensures .1,
+        c .ones3 .ensures .1,
+        at .loop .inv .1,
+      ),
       more ∙ sym (sum-last (at .loop .s)
           (λ i. ones (getD (a .a .now) i 0) + (ones (getD (a .j .now) i 0) + ones (getD (a .f .now) i 0)))),
     )

@@ -20,7 +20,8 @@ use Rattle.local_sets.proofs.columns_of.Statement.{statement}
 use Rattle.local_sets.proofs.columns_of.Tie as tie
 
 abbrev Inv-loop : tie.InvT-loop
-Inv-loop count blocks tests₀ variable₀ jump₀ fall₀ constant₀ jumps₀ falls₀ owned₀ i₀ tests variable jump fall constant jumps falls owned i =
+Inv-loop count blocks tests₀ variable₀ jump₀ fall₀ constant₀ jumps₀ falls₀ owned₀ i₀
+    tests variable jump fall constant jumps falls owned i =
     (i ≤ 64)
     × Upto (λ k. eqb (blockIn count blocks k .ending) 3) i tests
     × Told 0 (λ k x. x ≡ blockIn count blocks k .variable) 64 i variable
@@ -32,7 +33,9 @@ Inv-loop count blocks tests₀ variable₀ jump₀ fall₀ constant₀ jumps₀ 
     × Told 0 (λ k x. x ≡ blockIn count blocks k .effects) 64 i owned
 
 abbrev μ-loop : tie.MeasureT-loop
-μ-loop count blocks tests₀ variable₀ jump₀ fall₀ constant₀ jumps₀ falls₀ owned₀ i₀ tests variable jump fall constant jumps falls owned i = 64 - i
+μ-loop count blocks tests₀ variable₀ jump₀ fall₀ constant₀ jumps₀ falls₀ owned₀ i₀
+    tests variable jump fall constant jumps falls owned i =
+    64 - i
 
 loop-holds : tie.Need-loop-holds Inv-loop μ-loop
 loop-holds c = (
@@ -49,7 +52,8 @@ loop-holds c = (
 
 -- the place of the last writes
 place : tie.Need-array-write-owned Inv-loop μ-loop
-place c = c .before .before .before .before .before .before .before .before .before .before .before .before .loop-test .taken
+place c =
+    c .before .before .before .before .before .before .before .before .before .before .before .before .loop-test .taken
 
 bytes : tie.Need-mul-owned Inv-loop μ-loop
 bytes c = fits-8 (below-256 (place c))

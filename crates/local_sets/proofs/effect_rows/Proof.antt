@@ -28,14 +28,20 @@ abbrev μ-loop : tie.MeasureT-loop
 
 loop-holds : tie.Need-loop-holds Inv-loop μ-loop
 unfolding passed
-loop-holds c = (omega arith, omega arith, inl refl, λ t effects m. (told-none _ _ _ _ refl, told-none _ _ _ _ refl, told-none _ _ _ _ refl))
+loop-holds c = (
+  omega arith,
+  omega arith,
+  inl refl,
+  λ t effects m. (told-none _ _ _ _ refl, told-none _ _ _ _ refl, told-none _ _ _ _ refl),
+)
 
 shared-slice-read-within : tie.Need-shared-slice-read-within Inv-loop μ-loop
 shared-slice-read-within c = in-room (c .before .before .before .before .before .before .before .pre .0)
     (c .before .loop-test .taken)
 
 hits-of-requires : tie.Need-hits-of-requires Inv-loop μ-loop
-hits-of-requires c κs = (c .before .before .before .before .before .before .before .before .pre .1, c .within .ensures .room)
+hits-of-requires c κs =
+    (c .before .before .before .before .before .before .before .before .pre .1, c .within .ensures .room)
 
 place : tie.Need-array-write-touched Inv-loop μ-loop
 place c = c .before .before .before .loop-test .taken

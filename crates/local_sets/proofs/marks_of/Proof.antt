@@ -22,15 +22,28 @@ Inv-loop groups jump fall constant effects on₀ by-jump₀ by-fall₀ k₀ on b
     (k ≤ 256)
     × ((tests : ℕ) (variable : List ℕ) → OnVariable tests variable groups
     → MarksOf k
-    (record { tests = tests; variable = variable; jump = jump; fall = fall; constant = constant }) effects on by-jump by-fall)
+    (record {
+      tests = tests;
+      variable = variable;
+      jump = jump;
+      fall = fall;
+      constant = constant;
+    }) effects on by-jump by-fall)
 
 abbrev μ-loop : tie.MeasureT-loop
 μ-loop groups jump fall constant effects on₀ by-jump₀ by-fall₀ k₀ on by-jump by-fall k = 256 - k
 
 loop-holds : tie.Need-loop-holds Inv-loop μ-loop
 loop-holds c =
-    let start = c .before .before .before in
-    (omega arith, λ tests variable g. record { all = start .good .0 .1 .0 .1; ons = told-none _ _ _ _ refl; jumps = told-none _ _ _ _ refl; falls = told-none _ _ _ _ refl })
+    let start = c .before .before .before in (
+      omega arith,
+      λ tests variable g. record {
+        all = start .good .0 .1 .0 .1;
+        ons = told-none _ _ _ _ refl;
+        jumps = told-none _ _ _ _ refl;
+        falls = told-none _ _ _ _ refl;
+      },
+    )
 
 cast-v : tie.Need-cast-v Inv-loop μ-loop
 cast-v c = fits-byte (c .before .struct-told .given .0 .1)
@@ -44,10 +57,13 @@ shared-slice-read-alike c = in-room
     (c .before .before .struct-told .given .0 .1)
 
 opposed-requires : tie.Need-opposed-requires Inv-loop μ-loop
-opposed-requires c κs = let p = c .before .before .before .before .before .before .before .before .before .before .before .pre in (p .1 .0, p .1 .1 .1)
+opposed-requires c κs =
+    let p = c .before .before .before .before .before .before .before .before .before .before .before .pre in
+    (p .1 .0, p .1 .1 .1)
 
 opposed-requires-2 : tie.Need-opposed-requires-2 Inv-loop μ-loop
-opposed-requires-2 c κs = c .before .before .before .before .before .before .before .before .before .before .before .before .pre .1 .1
+opposed-requires-2 c κs =
+    c .before .before .before .before .before .before .before .before .before .before .before .before .pre .1 .1
 
 loop-again : tie.Need-loop-again Inv-loop μ-loop
 loop-again c =
@@ -64,7 +80,13 @@ loop-again c =
       λ tests variable g.
           let was = at .loop .inv .1 tests variable g in
           let t : Tests =
-          record { tests = tests; variable = variable; jump = start .args .jump .now; fall = start .args .fall .now; constant = start .args .constant .now } in
+          record {
+            tests = tests;
+            variable = variable;
+            jump = start .args .jump .now;
+            fall = start .args .fall .now;
+            constant = start .args .constant .now;
+          } in
           let alike = g .at (a .variable) (told .struct-told .given .0 .1) in
           record {
             all = was .all;

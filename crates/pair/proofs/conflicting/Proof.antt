@@ -8,7 +8,8 @@ use Rattle.pair.proofs.conflicting.Tie as tie
 returns : tie.Need-returns
 unfolding shares
 returns c =
-    let start = c .before .before .before .before .before .before .before .before .before .before .before .before .before .before in
+    let start =
+    c .before .before .before .before .before .before .before .before .before .before .before .before .before .before in
     let a = start .args in
     let one = toZ-ofZ (start .fits .constant1) in
     let two = toZ-ofZ (start .fits .constant2) in

@@ -6,13 +6,29 @@ use Rattle.path_sets.proofs.find.Tie as tie
 
 firsts-by-requires : tie.Need-firsts-by-requires
 firsts-by-requires c κs =
-    let w = c .before .before .before .before .before .before .before .pre in
-    (record { jumps = w .jumps; falls = w .falls; touches = w .touched; jumps-above = w .jumps-above; falls-above = w .falls-above }, (w .denied .0, w .jumping))
+    let w = c .before .before .before .before .before .before .before .pre in (
+      record {
+        jumps = w .jumps;
+        falls = w .falls;
+        touches = w .touched;
+        jumps-above = w .jumps-above;
+        falls-above = w .falls-above;
+      },
+      (w .denied .0, w .jumping),
+    )
 
 firsts-by-requires-2 : tie.Need-firsts-by-requires-2
 firsts-by-requires-2 c κs =
-    let w = c .before .before .before .before .before .before .before .before .pre in
-    (record { jumps = w .jumps; falls = w .falls; touches = w .touched; jumps-above = w .jumps-above; falls-above = w .falls-above }, (w .denied .1, w .falling))
+    let w = c .before .before .before .before .before .before .before .before .pre in (
+      record {
+        jumps = w .jumps;
+        falls = w .falls;
+        touches = w .touched;
+        jumps-above = w .jumps-above;
+        falls-above = w .falls-above;
+      },
+      (w .denied .1, w .falling),
+    )
 
 returns : tie.Need-returns
 returns c =

@@ -1,4 +1,5 @@
--- `routes::plan::put_row` meets its contract. The loop's invariant: the first w words are pasted in. The measure is the words to come.
+-- `routes::plan::put_row` meets its contract. The loop's invariant: the first w words are pasted in. The measure is the
+-- words to come.
 use mathlib.Core.Path.{_≡_, ap, _∙_}
 use Prim.Native.Nat.{ℕ, _*_, _≤_, _-_}
 use native.Mathlib.Numerals.{add-one}
@@ -22,7 +23,8 @@ loop-again c =
     let at-loop = c .before .before in
     let start = at-loop .before in (
       rw (at-loop .loop .inv .0, add-one)
-          (paste-suc (start .args .plan .now) (16 * start .args .b) (start .args .row .now) (at-loop .loop .w) 0 (omega arith) (omega arith)),
+          (paste-suc (start .args .plan .now) (16 * start .args .b) (start .args .row .now) (at-loop .loop .w) 0
+          (omega arith) (omega arith)),
       (omega arith, simp length-set (at-loop .loop .inv .1 .1)),
     )
 
@@ -33,10 +35,12 @@ returns : tie.Need-returns Inv-loop μ-loop
 returns c =
     let all : c .before .loop .w ≡ 16 = omega arith in
     let start = c .before .before in
-    c .before .loop .inv .0 ∙ ap (λ (n : ℕ). paste (start .args .plan .now) (16 * start .args .b) (start .args .row .now) n) all
+    c .before .loop .inv .0
+    ∙ ap (λ (n : ℕ). paste (start .args .plan .now) (16 * start .args .b) (start .args .row .now) n) all
 
 pub put-row-spec : {M : Type 1} → statement M
 put-row-spec =
     tie.close
-    (tie.spec Inv-loop μ-loop loop-holds (λ c. omega arith) (λ c. omega arith) (λ c. omega arith) (λ c. omega arith) (λ c. omega arith) (λ c. omega arith) (λ c. omega arith) (λ c. omega arith)
+    (tie.spec Inv-loop μ-loop loop-holds (λ c. omega arith) (λ c. omega arith) (λ c. omega arith) (λ c. omega arith)
+    (λ c. omega arith) (λ c. omega arith) (λ c. omega arith) (λ c. omega arith)
     loop-again same-length returns)

@@ -1,4 +1,5 @@
--- `report::five_lines` meets its contract: five lines, one behind the other, over the body that is read and the entries of its list. Assumes nothing.
+-- `report::five_lines` meets its contract: five lines, one behind the other, over the body that is read and the entries
+-- of its list. Assumes nothing.
 use native.Mathlib.Omega.{arith}
 use Rattle.lent.specs.Adding.{then}
 use Rattle.report.specs.Parts.{read-count}
@@ -17,7 +18,8 @@ returns c =
       λ a.
           let blocks = rw (read-count _ a (read .read .result) (read .read .ensures .0)) at (first .line .ensures .0) in
           let listed = rw (third .before .entries .ensures a) at (third .line3 .ensures .0) in
-          then blocks (then (second .line2 .ensures .0) (then listed (then (fourth .line4 .ensures .0) (fifth .line5 .ensures .0)))),
+          then blocks (then (second .line2 .ensures .0)
+          (then listed (then (fourth .line4 .ensures .0) (fifth .line5 .ensures .0)))),
       omega (
         arith,
         first .line .ensures .1,

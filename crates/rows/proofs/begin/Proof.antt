@@ -34,4 +34,5 @@ returns-2 c =
 
 pub begin-spec : {M : Type 1} → statement M
 begin-spec =
-    tie.close (tie.spec (λ c. search needs) (λ c κs. search needs) put-entry-requires (λ c. search needs) returns returns-2)
+    tie.close (tie.spec (λ c. search needs) (λ c κs. search needs) put-entry-requires
+    (λ c. search needs) returns returns-2)

@@ -23,4 +23,6 @@ returns c =
     )
 
 pub step-spec : {M : Type 1} → statement M
-step-spec = tie.close (tie.spec (λ c κs. search needs) (λ c. search needs) (λ c κs. search needs) (λ c κs. search needs) returns)
+step-spec =
+    tie.close (tie.spec (λ c κs. search needs) (λ c. search needs) (λ c κs. search needs)
+    (λ c κs. search needs) returns)

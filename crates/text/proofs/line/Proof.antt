@@ -9,10 +9,13 @@ returns : tie.Need-returns
 returns c =
     let third = c .before .before in
     let second = third .before .before .before .before .before in
-    let first = second .before .before .before .before in
-    (then (first .put .ensures .1) (then (second .number .ensures .0) (third .put2 .ensures .1)), omega (arith, first .put .ensures .1 .end, second .number .ensures .1, third .put2 .ensures .1 .end))
+    let first = second .before .before .before .before in (
+      then (first .put .ensures .1) (then (second .number .ensures .0) (third .put2 .ensures .1)),
+      omega (arith, first .put .ensures .1 .end, second .number .ensures .1, third .put2 .ensures .1 .end),
+    )
 
 pub line-spec : {M : Type 1} → statement M
 line-spec =
     tie.close
-    (tie.spec (λ c κs. search needs) (λ c κs. search needs) (λ c. search needs) (λ c κs. search needs) (λ c. search needs) returns)
+    (tie.spec (λ c κs. search needs) (λ c κs. search needs) (λ c. search needs) (λ c κs. search needs)
+    (λ c. search needs) returns)

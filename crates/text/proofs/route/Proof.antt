@@ -1,5 +1,5 @@
--- `route` meets its contract. The loop's invariant: the blocks so far are added, with what is to come that is the whole; the place goes up by 22 at most.
--- The measure is the blocks to come. Assumes nothing.
+-- `route` meets its contract. The loop's invariant: the blocks so far are added, with what is to come that is the
+-- whole; the place goes up by 22 at most. The measure is the blocks to come. Assumes nothing.
 use mathlib.Core.Path.{_≡_, refl, _∙_}
 use Prim.Native.Nat.{_+_, _*_, _-_, _≤_}
 use native.Mathlib.Omega.{arith}
@@ -24,7 +24,13 @@ ways : (c : tie.At-loop Inv-loop μ-loop) → length (entry c .args .t3) ≡ 64
 ways c = entry c .good .1 .1 .0 .1 .0 .1
 
 room : (c : tie.At-loop Inv-loop μ-loop) → c .loop .to + 1 + 22 * (64 - c .loop .block) ≤ length (c .loop .out)
-room c = omega (arith, c .before .before .before .put .ensures .1 .end, c .before .before .before .put .kept .0, entry c .pre)
+room c =
+    omega (
+      arith,
+      c .before .before .before .put .ensures .1 .end,
+      c .before .before .before .put .kept .0,
+      entry c .pre,
+    )
 
 loop-holds : tie.Need-loop-holds Inv-loop μ-loop
 loop-holds c = (begun _ _ _, (omega arith, (omega arith, refl)))
@@ -38,8 +44,10 @@ step-requires c κs = omega (arith, room (c .before .before))
 loop-again : tie.Need-loop-again Inv-loop μ-loop
 loop-again c =
     let stepped = c .before .before in
-    let head = stepped .before .before .before in
-    (turned (head .loop .inv .0) (omega (arith, ways head)) (stepped .step .ensures .0), (omega (arith, stepped .step .ensures .1), (omega arith, stepped .step .kept .0 ∙ head .loop .inv .1 .1 .1)))
+    let head = stepped .before .before .before in (
+      turned (head .loop .inv .0) (omega (arith, ways head)) (stepped .step .ensures .0),
+      (omega (arith, stepped .step .ensures .1), (omega arith, stepped .step .kept .0 ∙ head .loop .inv .1 .1 .1)),
+    )
 
 put-requires-2 : tie.Need-put-requires-2 Inv-loop μ-loop
 put-requires-2 c κs = omega (arith, room (c .before .before .before))
@@ -54,8 +62,11 @@ returns : tie.Need-returns Inv-loop μ-loop
 returns c =
     let last = c .before .before in
     let head = last .before .before .before .before in
-    let first = head .before .before .before in
-    (then (first .put .ensures .1) (then (ended (head .loop .inv .0) (omega (arith, ways head))) (last .put2 .ensures .1)), omega (arith, first .put .ensures .1 .end, last .put2 .ensures .1 .end))
+    let first = head .before .before .before in (
+      then (first .put .ensures .1)
+          (then (ended (head .loop .inv .0) (omega (arith, ways head))) (last .put2 .ensures .1)),
+      omega (arith, first .put .ensures .1 .end, last .put2 .ensures .1 .end),
+    )
 
 pub route-spec : {M : Type 1} → statement M
 route-spec =

@@ -1,4 +1,5 @@
--- `step` meets its contract: nothing for a block that is not on the route; else a space, its number and its letter. Assumes nothing.
+-- `step` meets its contract: nothing for a block that is not on the route; else a space, its number and its letter.
+-- Assumes nothing.
 use native.Mathlib.Omega.{arith}
 use borrow.Author.Tests.{eq-eqb, ne-eqb}
 use Rattle.lent.specs.Adding.{then, nothing}
@@ -14,8 +15,11 @@ returns-2 c =
     let third = c .before .before in
     let second = third .before .before .before .before .before .before in
     let first = second .before .before .before .before in
-    let last = rw (third .before .before .before .letter .ensures) at (third .put2 .ensures .1) in
-    (rw (ne-eqb _ 0 (first .before .before .before .if1 .left)) (then (first .put .ensures .1) (then (second .number .ensures .0) last)), omega (arith, first .put .ensures .1 .end, second .number .ensures .1, third .put2 .ensures .1 .end))
+    let last = rw (third .before .before .before .letter .ensures) at (third .put2 .ensures .1) in (
+      rw (ne-eqb _ 0 (first .before .before .before .if1 .left))
+          (then (first .put .ensures .1) (then (second .number .ensures .0) last)),
+      omega (arith, first .put .ensures .1 .end, second .number .ensures .1, third .put2 .ensures .1 .end),
+    )
 
 pub step-spec : {M : Type 1} → statement M
 step-spec =

@@ -16,21 +16,36 @@ returns c = rw (eq-eqb (suc (c .before .args .b)) (c .before .args .count) (omeg
 returns-2 : tie.Need-returns-2
 returns-2 c =
     let start = c .before .before .before in
-    let inner : eqb (suc (start .args .b)) (start .args .count) ≡ false = ne-eqb (suc (start .args .b)) (start .args .count) (λ e. c .before .before .if1 .left (add-one (start .args .b) ∙ e)) in
+    let inner : eqb (suc (start .args .b)) (start .args .count) ≡ false =
+    ne-eqb (suc (start .args .b)) (start .args .count)
+    (λ e. c .before .before .if1 .left (add-one (start .args .b) ∙ e)) in
     rw (inner, sym (c .before .has .ensures) ∙ c .if2 .taken)
 
 returns-3 : tie.Need-returns-3
 returns-3 c =
     let start = c .before .before .before .before .before in
-    let inner : eqb (suc (start .args .b)) (start .args .count) ≡ false = ne-eqb (suc (start .args .b)) (start .args .count) (λ e. c .before .before .before .before .if1 .left (add-one (start .args .b) ∙ e)) in
-    rw (inner, sym (c .before .before .before .has .ensures) ∙ c .before .before .if2 .left, sym (c .before .has2 .ensures) ∙ c .if3 .taken)
+    let inner : eqb (suc (start .args .b)) (start .args .count) ≡ false =
+    ne-eqb (suc (start .args .b)) (start .args .count)
+    (λ e. c .before .before .before .before .if1 .left (add-one (start .args .b) ∙ e)) in
+    rw (
+      inner,
+      sym (c .before .before .before .has .ensures) ∙ c .before .before .if2 .left,
+      sym (c .before .has2 .ensures) ∙ c .if3 .taken,
+    )
 
 returns-4 : tie.Need-returns-4
 returns-4 c =
     let start = c .before .before .before .before .before in
-    let inner : eqb (suc (start .args .b)) (start .args .count) ≡ false = ne-eqb (suc (start .args .b)) (start .args .count) (λ e. c .before .before .before .before .if1 .left (add-one (start .args .b) ∙ e)) in
-    rw (inner, sym (c .before .before .before .has .ensures) ∙ c .before .before .if2 .left, sym (c .before .has2 .ensures) ∙ c .if3 .left)
+    let inner : eqb (suc (start .args .b)) (start .args .count) ≡ false =
+    ne-eqb (suc (start .args .b)) (start .args .count)
+    (λ e. c .before .before .before .before .if1 .left (add-one (start .args .b) ∙ e)) in
+    rw (
+      inner,
+      sym (c .before .before .before .has .ensures) ∙ c .before .before .if2 .left,
+      sym (c .before .has2 .ensures) ∙ c .if3 .left,
+    )
 
 pub byte-of-spec : {M : Type 1} → statement M
 byte-of-spec =
-    tie.close (tie.spec (λ c. search needs) returns (λ c κs. search needs) returns-2 (λ c κs. search needs) returns-3 returns-4)
+    tie.close (tie.spec (λ c. search needs) returns (λ c κs. search needs) returns-2
+    (λ c κs. search needs) returns-3 returns-4)
