@@ -3,7 +3,7 @@ use mathlib.Core.List.{List}
 use Prim.Native.Nat.{ℕ}
 use Rattle.theory.specs.Row.{Key}
 use Rattle.theory.specs.SweepWords.{Words}
-use Rattle.plan_words.specs.declared.Way.{Way}
+use Rattle.entries.specs.declared.Way.{Way}
 use Rattle.entries.specs.declared.Entry.{Entry}
 use Rattle.entries.specs.Entries.{entryAt}
 

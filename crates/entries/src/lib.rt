@@ -10,7 +10,14 @@ ghost use Rattle.theory.specs.Row.{keyBefore};
 ghost use Rattle.theory.specs.Ties.{earlier};
 ghost use Rattle.entries.specs.Entries.{entryAt, entriesFrom, betterOf, inserted, entryPut, Place, Moved, Squeezed, Grown};
 ghost use Rattle.entries.specs.Structs.{tupleOf, structAt};
-use plan_words::Way;
+
+// A way to the end of a body as words: its weight, the blocks left by jump or go, the blocks left by fall.
+#[repr(C)]
+pub struct Way {
+    pub weight: u64,
+    pub jumped: u64,
+    pub fallen: u64,
+}
 
 // Of tails with one pair of sets of open edges, the jump set and the fall set, the first of the heaviest.
 #[repr(C)]

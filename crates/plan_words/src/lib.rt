@@ -5,14 +5,6 @@ ghost use Prim.Native.Nat.{_<_};
 ghost use lib.ListN.{length};
 ghost use Rattle.theory.specs.Plan.{testAt, targetAt, touchedAt, deniedAt, againstAt, listedAt, costAt};
 
-// A way to the end of a body as words: its weight, the blocks left by jump or go, the blocks left by fall.
-#[repr(C)]
-pub struct Way {
-    pub weight: u64,
-    pub jumped: u64,
-    pub fallen: u64,
-}
-
 // 1 where the block is a test, else 0.
 pub fn test(plan: &[u64], b: usize) -> u64
     requires { ⌜ (length (now plan) ≡ 1024) × (b < 64) ⌝ }

@@ -10,7 +10,7 @@ ghost use Rattle.rows.specs.Steps.{sideOf, hitsOf, openedOf};
 ghost use Rattle.rows.specs.Rows.{pushed, sourceOf, manyOf, tailsBy, Ready, leftFrom};
 ghost use Rattle.rows.specs.Begun.{zeroRow, Holds, begunWith};
 use entries::Entry;
-use plan_words::Way;
+use entries::Way;
 
 // One side of a step in front of tails, which leaves a block by a way: of the jump edges, or of the fall edges, those
 // that it conflicts with, those that the block's effects deny, its own where the block tests, those that stay open; and

@@ -10,7 +10,7 @@ ghost use Rattle.theory.specs.WalkWords.{advance};
 ghost use Rattle.theory.specs.Plan.{costAt, PlanOf};
 ghost use Rattle.search.specs.Terms.{bannedAt, carriedAt, routeIn, foundIn, Standing, Entered, Barring, Walks};
 ghost use Rattle.search.specs.Terms.{isOpen, Searched};
-use plan_words::Way;
+use entries::Way;
 
 // The banned edges: those by jump or go, those by fall.
 struct Banned {

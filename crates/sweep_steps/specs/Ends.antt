@@ -24,7 +24,7 @@ use Rattle.theory.specs.WalkWords.{bytes-words}
 use Rattle.theory.specs.Best.{best-leads}
 use Rattle.theory.specs.Plan.{Planned, PlanOf, costLimit}
 use Rattle.plan.specs.declared.Prepared.{Prepared}
-use Rattle.plan_words.specs.declared.Way.{Way}
+use Rattle.entries.specs.declared.Way.{Way}
 use Rattle.plan.specs.Prepared.{Start, PreparedOf, refusal-owed, start-owed, start-plan, start-few}
 use Rattle.plan.specs.Prepared.PreparedOf.{refused as Refuses, ready as Starts}
 use Rattle.plan.specs.RouteWords.{bytesOf}

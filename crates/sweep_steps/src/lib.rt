@@ -18,7 +18,7 @@ ghost use Rattle.sweep_steps.specs.Ends.{allowedOf, WeightFew, answerOf,
 ghost use Rattle.sweep_steps.specs.declared.SweepAnswer.the-variants.{Refused};
 use entries::Entry;
 use plan::Prepared;
-use plan_words::Way;
+use entries::Way;
 use rows::Tails;
 
 // An entry into a row's words, as its entry p.

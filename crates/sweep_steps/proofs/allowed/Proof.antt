@@ -1,4 +1,4 @@
--- `sweep::allowed` meets its contract.
+-- `sweep_steps::allowed` meets its contract.
 use Prim.Native.Nat.{_*_}
 use borrow.Author.Tests.{lt-ltb, le-ltb}
 use borrow.Author.Needs.{needs}

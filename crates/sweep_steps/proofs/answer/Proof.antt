@@ -1,4 +1,4 @@
--- `sweep::answer` meets its contract.
+-- `sweep_steps::answer` meets its contract.
 use mathlib.Core.Path.{_≡_, sym, ap, subst, _∙_}
 use Prim.Native.Nat.{ℕ, _<_, _≤_}
 use native.Mathlib.Omega.{arith}

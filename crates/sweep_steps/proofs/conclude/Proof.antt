@@ -1,4 +1,4 @@
--- `sweep::conclude` meets its contract, case by case.
+-- `sweep_steps::conclude` meets its contract, case by case.
 use native.Mathlib.Omega.{arith}
 use mathlib.Core.Path.{_≡_}
 use Prim.Native.Nat.{ℕ, _≤_}

@@ -1,4 +1,4 @@
--- `sweep::finish` meets its contract.
+-- `sweep_steps::finish` meets its contract.
 use mathlib.Core.Path.{sym, ap}
 use mathlib.Core.Bool.{Bool, cond}
 use Prim.Native.Nat.{_-_}

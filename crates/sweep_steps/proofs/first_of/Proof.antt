@@ -1,4 +1,4 @@
--- `sweep::first_of` meets its contract.
+-- `sweep_steps::first_of` meets its contract.
 use mathlib.Core.Path.{sym, ap}
 use mathlib.Core.Bool.{Bool, cond}
 use Prim.Native.Nat.{_*_}

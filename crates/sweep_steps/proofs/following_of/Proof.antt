@@ -1,4 +1,4 @@
--- `sweep::following_of` meets its contract.
+-- `sweep_steps::following_of` meets its contract.
 use Rattle.sweep_steps.specs.Driven.{following-over, following-more}
 use borrow.Author.Needs.{needs}
 use Rattle.sweep_steps.proofs.following_of.Statement.{statement}

@@ -1,4 +1,4 @@
--- `sweep::length_of` meets its contract.
+-- `sweep_steps::length_of` meets its contract.
 use mathlib.Core.Path.{sym}
 use native.Mathlib.Omega.{arith}
 use lib.ListN.{List·getD-eq-default}

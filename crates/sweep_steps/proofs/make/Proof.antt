@@ -1,4 +1,4 @@
--- `sweep::make` meets its contract.
+-- `sweep_steps::make` meets its contract.
 use mathlib.Core.Path.{_∙_}
 use Rattle.rows.specs.Rows.{tailsBy}
 use Rattle.rows.specs.Begun.{begunWith}

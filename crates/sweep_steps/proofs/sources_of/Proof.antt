@@ -1,4 +1,4 @@
--- `sweep::sources_of` meets its contract.
+-- `sweep_steps::sources_of` meets its contract.
 use mathlib.Core.Path.{ap, _∙_}
 use Prim.Native.Nat.{_-_}
 use lib.ListN.{getD}

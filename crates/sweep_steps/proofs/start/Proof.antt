@@ -1,4 +1,4 @@
--- `sweep::start` meets its contract.
+-- `sweep_steps::start` meets its contract.
 use lib.Dec.{ltb}
 use borrow.Author.Needs.{needs}
 use Rattle.sweep_steps.proofs.start.Statement.{statement}

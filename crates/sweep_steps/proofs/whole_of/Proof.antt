@@ -1,4 +1,4 @@
--- `sweep::whole_of` meets its contract.
+-- `sweep_steps::whole_of` meets its contract.
 use mathlib.Core.Path.{sym, ap}
 use mathlib.Core.Bool.{Bool, cond}
 use borrow.Author.Tests.{lt-ltb, le-ltb}
