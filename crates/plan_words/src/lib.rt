@@ -1,5 +1,5 @@
-// What both ways work on: the plan's words of a block, each by its name (theory's Plan), and a way to the end. A way,
-// and a side of a set of edges, is 1 (jump or go) or 2 (fall). The plan itself is made by the crate plan.
+// What both ways work on: the plan's words of a block, each by its name (theory's Plan). A way, and a side of a set of
+// edges, is 1 (jump or go) or 2 (fall). The plan itself is made by the crate plan.
 ghost use mathlib.Core.Path.{_≡_};
 ghost use Prim.Native.Nat.{_<_};
 ghost use lib.ListN.{length};
