@@ -11,4 +11,4 @@ returns-2 c = rw (c .before .counted2 .given .1)
 
 pub of-counted-spec : {M : Type 1} → statement M
 of-counted-spec =
-    tie.close (tie.spec (λ _ _. tt) (λ c. search needs) (λ c. search needs) (λ c. search needs) returns returns-2)
+    tie.close (tie.spec (λ c. search needs) (λ c. search needs) (λ c. search needs) returns returns-2)
