@@ -3,12 +3,12 @@ use mathlib.Core.Bool.{Bool, true, false, _&&_, and-false, false≢true}
 use mathlib.Core.List.{List, [], _∷_, _++_, append-assoc, append-nil}
 use mathlib.Core.Path.{_≡_, refl, ap, sym, _∙_}
 use Prim.Native.Nat.{ℕ, zero, suc, _+_, _≤_, _<_}
-use native.Mathlib.Nat.{le-refl}
+use native.Mathlib.Numerals.{add-one}
 use native.Mathlib.Omega.{arith}
 use borrow.Author.Tests.{lt-leb, le-leb, eq-eqb, ne-eqb, leb-true, eqb-true}
 use lib.Dec.{leb, eqb}
 use lib.ListN.{length, getD, take, drop}
-use lib.Seq.{paste, take-paste, take-length, drop-cons, drop-drop}
+use lib.Seq.{drop-cons, drop-drop}
 use Rattle.form.specs.declared.Block.{Block}
 use Rattle.form.specs.declared.Effect.{Effect}
 use Rattle.form.specs.declared.Body.{Body}
@@ -54,15 +54,8 @@ pub lacks : (sum left total : ℕ) → sum + left ≡ total → eqb left 0 ≡ e
 lacks sum zero total h = eq-eqb zero 0 refl ∙ sym (eq-eqb sum total (omega arith))
 lacks sum (suc left) total h = ne-eqb (suc left) 0 (λ e. omega arith) ∙ sym (ne-eqb sum total (λ e. omega arith))
 
--- Laying out: bytes pasted after what is laid out so far.
-pub lay-more :
-    (buf bytes done : List ℕ) (to : ℕ) → to ≤ length buf → take to buf ≡ done
-    → take (to + length bytes) (paste buf to bytes (length bytes)) ≡ done ++ bytes
-lay-more buf bytes done to h e =
-    take-paste buf to bytes (length bytes) h (le-refl (length bytes)) ∙ (λ i. e i ++ take-length bytes i)
-
 -- one effect more
-pub effects-more :
+effects-more :
     (l : List Effect) (j : ℕ) → j < length l
     → layEffects (take (suc j) l) ≡ layEffects (take j l) ++ effectBytes (getD l j zeroEffect)
 unfolding layEffects
@@ -76,27 +69,12 @@ unfolding layEffects
 effects-none l = refl
 
 -- a turn of laying out effects
-pub effects-laid :
-    (buf bytes before : List ℕ) (to : ℕ) (l : List Effect) (j : ℕ) → to ≤ length buf → j < length l
-    → take to buf ≡ before ++ layEffects (take j l) → bytes ≡ effectBytes (getD l j zeroEffect)
-    → take (to + length bytes) (paste buf to bytes (length bytes)) ≡ before ++ layEffects (take (suc j) l)
-effects-laid buf bytes before to l j h more e b =
-    lay-more buf bytes (before ++ layEffects (take j l)) to h e
-    ∙ (append-assoc before (layEffects (take j l)) bytes
-    ∙ ap (λ (r : List ℕ). before ++ r) (ap (λ (r : List ℕ). layEffects (take j l) ++ r) b
-    ∙ sym (effects-more l j more)))
-
--- a record's bytes, shown to be `bytes′`, pasted, and then its own effects after them
-pub block-laid :
-    (buf pasted buf′ bytes bytes′ own : List ℕ) (at after r : ℕ) → at ≤ length buf → bytes ≡ bytes′
-    → after ≡ at + length bytes
-    → pasted ≡ paste buf at bytes (length bytes) → take r buf′ ≡ take after pasted ++ own
-    → take r buf′ ≡ take at buf ++ (bytes′ ++ own)
-block-laid buf pasted buf′ bytes bytes′ own at after r h b f p e =
-    e
-    ∙ ((λ i. take (f i) (p i) ++ own)
-    ∙ (ap (λ (l : List ℕ). l ++ own) (lay-more buf bytes (take at buf) at h refl)
-    ∙ (append-assoc (take at buf) bytes own ∙ ap (λ (l : List ℕ). take at buf ++ (l ++ own)) b)))
+pub effects-next :
+    (l : List Effect) (j : ℕ) (bytes : List ℕ) → j < length l → bytes ≡ effectBytes (getD l j zeroEffect)
+    → layEffects (take j l) ++ bytes ≡ layEffects (take (j + 1) l)
+effects-next l j bytes h e =
+    ap (λ (r : List ℕ). layEffects (take j l) ++ r) e ∙ sym (effects-more l j h)
+    ∙ ap (λ (n : ℕ). layEffects (take n l)) (sym (add-one j))
 
 -- A body's blocks: those laid out so far, and the rest of the whole.
 blocks-step :

@@ -1,14 +1,12 @@
 -- Laws of the reader's and the writer's answers: the numbers follow the case; and one law for each way that the writer
 -- ends. Rests on Form and Answer.
 use mathlib.Core.Bool.{Bool, true, false, true≢false, false≢true}
-use mathlib.Core.List.{List, _++_}
+use mathlib.Core.List.{List}
 use mathlib.Core.Path.{_≡_, refl, ap, sym, _∙_}
-use Prim.Native.Nat.{ℕ, _+_, _≤_, _<_}
-use native.Mathlib.Nat.{zero-add}
+use Prim.Native.Nat.{ℕ, _≤_, _<_}
 use borrow.Author.Tests.{lt-ltb, le-ltb}
 use lib.Dec.{ltb}
-use lib.ListN.{length, drop}
-use lib.Seq.{paste, take-length}
+use lib.ListN.{length}
 use Rattle.form.specs.declared.Body.{Body}
 use Rattle.form.specs.declared.Verdict.{Verdict}
 use Rattle.form.specs.declared.Verdict.the-variants.{Accepted, Refused}
@@ -61,9 +59,3 @@ module _ (body : Body) (room : ℕ) (fit : countsFit body ≡ true) (v : Verdict
 
   pub room-enough : accepted v ≡ true → length (lay body) ≤ room → Bytes (length (lay body)) ≡ written body room
   room-enough e h = sym (ap pick (le-ltb room (length (lay body)) h)) ∙ (judged-on v byRoom e ∙ whole)
-
--- what is pasted from the start on, before what stood there
-pub pasted-front : (out bytes form : List ℕ) → bytes ≡ form
-    → paste out 0 bytes (length bytes) ≡ form ++ drop (length form) out
-pasted-front out bytes form e =
-    (λ i. take-length bytes i ++ drop (zero-add (length bytes) i) out) ∙ ap (λ (l : List ℕ). l ++ drop (length l) out) e

@@ -9,4 +9,3 @@ pub mod Whole
 pub mod Signed
 pub mod Complement
 pub mod Sums
-pub mod Laid

@@ -8,6 +8,7 @@ ghost use lib.ListN.{length, take, drop};
 ghost use mir.Syntax.{w32};
 ghost use mir.Val.{ofZ};
 ghost use Rattle.form.specs.Form.{counterBytes, blockBytes, effectBytes, layEffects, lay, countsFit};
+ghost use Rattle.lent.specs.Adding.{Adds};
 
 // The 32 bits of a signed number.
 fn bits_of(z: i32) -> u32
@@ -101,7 +102,7 @@ fn lay_effects(
 ) -> usize
     requires { ⌜ (from + n ≤ 256) × (at + 10 * n ≤ length (now buf)) ⌝ }
     ensures { λ r. ⌜ (r ≡ at + 10 * n) ×
-        (take r (now (buf .exit)) ≡ take at (now (buf .entry)) ++ layEffects (take n (drop from effects))) ⌝ }
+        Adds (now (buf .entry)) at (now (buf .exit)) r (layEffects (take n (drop from effects))) ⌝ }
 {
     let mut to = at;
     let mut j = 0;
@@ -149,8 +150,8 @@ fn lay_block(
 ) -> usize
     requires { ⌜ (e + block .effects ≤ 256) × (at + (17 + 10 * block .effects) ≤ length (now buf)) ⌝ }
     ensures { λ r. ⌜ (r ≡ at + (17 + 10 * block .effects)) ×
-        (take r (now (buf .exit)) ≡ take at (now (buf .entry)) ++
-        (blockBytes block ++ layEffects (take (block .effects) (drop e effects)))) ⌝ }
+        Adds (now (buf .entry)) at (now (buf .exit)) r
+        (blockBytes block ++ layEffects (take (block .effects) (drop e effects))) ⌝ }
 {
     let bytes = block_bytes(block);
     let after = lent::put(buf, at, &bytes);

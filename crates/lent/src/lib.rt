@@ -1,15 +1,12 @@
 // Bytes put into lent memory at a place: what the writer lays out and what the report prints.
-ghost use mathlib.Core.Path.{_≡_};
 ghost use Prim.Native.Nat.{_+_, _≤_};
 ghost use lib.ListN.{length};
-ghost use lib.Seq.{paste};
 ghost use Rattle.lent.specs.Adding.{Adds};
 
 // The bytes from `at` on; the place after them.
 pub fn put(out: &mut [u8], at: usize, bytes: &[u8]) -> usize
     requires { ⌜ at + length (now bytes) ≤ length (now out) ⌝ }
-    ensures pasted { λ r. ⌜ (r ≡ at + length (now (bytes .entry))) × (now (out .exit) ≡ paste (now (out .entry)) at (now (bytes .entry)) (length (now (bytes .entry)))) ⌝ }
-    ensures adds { λ r. ⌜ Adds (now (out .entry)) at (now (out .exit)) r (now (bytes .entry)) ⌝ }
+    ensures { λ r. ⌜ Adds (now (out .entry)) at (now (out .exit)) r (now (bytes .entry)) ⌝ }
 {
     let mut j = 0;
     while j < bytes.len() {

@@ -1,18 +1,57 @@
--- Entries laid out one after another into lent bytes: what each function that writes says, and one more entry. Rests
--- on the laws' Laid.
-use mathlib.Core.Path.{_≡_, sym, _∙_}
+-- Entries laid out one after another into lent bytes: the bytes of a function that writes, and one entry more. Rests on
+-- lent's Adding.
+use mathlib.Core.Path.{_≡_, refl, sym, ap, _∙_}
 use mathlib.Core.Bool.{Bool, cond}
 use mathlib.Core.List.{List, [], _∷_, _++_}
-use Prim.Native.Nat.{ℕ, _+_, _≤_, _<_}
+use Prim.Native.Nat.{ℕ, suc, _+_, _≤_, _<_}
 use native.Mathlib.Omega.{arith}
-use lib.ListN.{length, length-append}
-use lib.Seq.{sets}
+use lib.ListN.{length, set, length-append}
+use Rattle.lent.specs.Adding.{Adds, then, told, as-long}
 use Rattle.laws.specs.Terms.{bit, each, range}
-use Rattle.laws.specs.Laid.{Laid, sets-more, laid-next, laid-room}
+use Rattle.laws.specs.Sums.{each-last, each-part}
 
--- what a function that writes says: the place after the bytes, and that they stand from `at` on
-abbrev pub Wrote : (at : ℕ) (bytes before : List ℕ) (r : ℕ) (after : List ℕ) → Type 0
-Wrote at bytes before r after = (r ≡ at + length bytes) × (after ≡ sets before at bytes)
+-- five stores in a row
+pub five : (l : List ℕ) (at a b c d e : ℕ)
+    → Adds l at (set (set (set (set (set l at a) (at + 1) b) (at + 2) c) (at + 3) d) (at + 4) e) (at + 5)
+    (a ∷ b ∷ c ∷ d ∷ e ∷ [])
+five l at a b c d e = record {
+  end = refl;
+  holds = λ i. set (set (set (set (set l at a) (one i) b) (two i) c) (three i) d) (four i) e;
+}
+  where
+    one : at + 1 ≡ suc at
+    one = omega arith
+
+    two : at + 2 ≡ suc (suc at)
+    two = omega arith
+
+    three : at + 3 ≡ suc (suc (suc at))
+    three = omega arith
+
+    four : at + 4 ≡ suc (suc (suc (suc at)))
+    four = omega arith
+
+-- of a list made for each number: one more, of two parts, and the room for it
+module _ (f : ℕ → List ℕ) (i : ℕ) (x y : List ℕ) (e : f i ≡ x ++ y) {before out : List ℕ} {start at : ℕ}
+    (l : Adds before start out at (each (range 0 i) f)) where
+  pub one-more : {out′ out″ : List ℕ} {at′ at″ : ℕ} → Adds out at out′ at′ x → Adds out′ at′ out″ at″ y
+      → Adds before start out″ at″ (each (range 0 (i + 1)) f)
+  one-more p q =
+      told (ap (λ (z : List ℕ). each (range 0 i) f ++ z) (sym e) ∙ sym (each-last i f)) (then l (then p q))
+
+  pub room-more : (n : ℕ) → i < n → start + length (each (range 0 n) f) ≤ length before
+      → at + length x + length y ≤ length out
+  room-more n h room =
+      omega (
+        arith,
+        l .end,
+        as-long l,
+        each-part (i + 1) n f (omega arith),
+        ap length (each-last i f),
+        length-append (each (range 0 i) f) (f i),
+        ap length e,
+        length-append x y,
+      )
 
 -- an entry's bytes, where there is one
 abbrev pub entryBytes : Bool → (kind first third second outcome : ℕ) → List ℕ
@@ -33,9 +72,9 @@ edgeBytes assigned jump fall variable second outcome =
     wordBytes 1 assigned variable 0 0 second outcome ++ wordBytes 2 jump 1 fall 2 second outcome
 
 -- ---- one turn of the loop by first blocks
-module _ (before : List ℕ) (start kind word third other another second outcome : ℕ) (out : List ℕ) (at f : ℕ)
-    (one two : Bool) (p : one ≡ bit word f) (q : two ≡ bit other f)
-    (l : Laid before start (each (range 0 f) (turnBytes kind word third other another second outcome)) out at) where
+module _ {before out : List ℕ} {start at : ℕ} (kind word third other another second outcome f : ℕ)
+    {one two : Bool} (p : one ≡ bit word f) (q : two ≡ bit other f)
+    (l : Adds before start out at (each (range 0 f) (turnBytes kind word third other another second outcome))) where
   turn-is : turnBytes kind word third other another second outcome f
       ≡ entryBytes one kind f third second outcome ++ entryBytes two kind f another second outcome
   turn-is = λ i. entryBytes (sym p i) kind f third second outcome ++ entryBytes (sym q i) kind f another second outcome
@@ -45,27 +84,22 @@ module _ (before : List ℕ) (start kind word third other another second outcome
       (entryBytes two kind f another second outcome) ≤ length out
   unfolding wordBytes
   turn-room h room =
-      laid-room before start (turnBytes kind word third other another second outcome) 64 f
-      (entryBytes one kind f third second outcome)
-      (entryBytes two kind f another second outcome) out at turn-is h room l
+      room-more (turnBytes kind word third other another second outcome) f (entryBytes one kind f third second outcome)
+      (entryBytes two kind f another second outcome) turn-is l 64 h room
 
-  pub turn-next : (out′ out″ : List ℕ) (at′ at″ : ℕ) → at′ ≡ at + length (entryBytes one kind f third second outcome)
-      → out′ ≡ sets out at (entryBytes one kind f third second outcome)
-      → at″ ≡ at′ + length (entryBytes two kind f another second outcome)
-      → out″ ≡ sets out′ at′ (entryBytes two kind f another second outcome)
-      → Laid before start (each (range 0 (f + 1)) (turnBytes kind word third other another second outcome)) out″ at″
-  turn-next out′ out″ at′ at″ a b c d =
-      laid-next before start (turnBytes kind word third other another second outcome) f
-      (entryBytes one kind f third second outcome)
-      (entryBytes two kind f another second outcome) out out′ out″ at at′ at″ turn-is l a b c d
+  pub turn-next : {out′ out″ : List ℕ} {at′ at″ : ℕ}
+      → Adds out at out′ at′ (entryBytes one kind f third second outcome)
+      → Adds out′ at′ out″ at″ (entryBytes two kind f another second outcome)
+      → Adds before start out″ at″ (each (range 0 (f + 1)) (turnBytes kind word third other another second outcome))
+  turn-next =
+      one-more (turnBytes kind word third other another second outcome) f (entryBytes one kind f third second outcome)
+      (entryBytes two kind f another second outcome) turn-is l
 
-pub word-done : (before : List ℕ) (start kind word third other another second outcome : ℕ) (out : List ℕ) (at f : ℕ)
-    → f ≡ 64 → Laid before start (each (range 0 f) (turnBytes kind word third other another second outcome)) out at
-    → (at ≡ start + length (wordBytes kind word third other another second outcome))
-    × (out ≡ sets before start (wordBytes kind word third other another second outcome))
+pub word-done : {before out : List ℕ} {start at : ℕ} (kind word third other another second outcome f : ℕ)
+    → f ≡ 64 → Adds before start out at (each (range 0 f) (turnBytes kind word third other another second outcome))
+    → Adds before start out at (wordBytes kind word third other another second outcome)
 unfolding wordBytes
-word-done before start kind word third other another second outcome out at f e l = let m = rw e at l in
-    (m .place, m .held)
+word-done kind word third other another second outcome f e l = rw e at l
 
 -- ---- the two kinds of an edge's entries
 module _ (assigned jump fall variable second outcome : ℕ) where
@@ -79,13 +113,8 @@ module _ (assigned jump fall variable second outcome : ℕ) where
   unfolding edgeBytes
   edge-length = length-append assignments edges
 
-  pub edge-done : (before out out′ : List ℕ) (start at at′ : ℕ) → at ≡ start + length assignments
-      → out ≡ sets before start assignments → at′ ≡ at + length edges → out′ ≡ sets out at edges
-      → (at′ ≡ start + length (edgeBytes assigned jump fall variable second outcome))
-      × (out′ ≡ sets before start (edgeBytes assigned jump fall variable second outcome))
+  pub edge-done : {before out out′ : List ℕ} {start at at′ : ℕ} → Adds before start out at assignments
+      → Adds out at out′ at′ edges
+      → Adds before start out′ at′ (edgeBytes assigned jump fall variable second outcome)
   unfolding edgeBytes
-  edge-done before out out′ start at at′ a b c d = (
-    omega (arith, length-append assignments edges),
-    d
-        ∙ (λ i. sets (b i) (a i) edges) ∙ sets-more assignments edges before start,
-  )
+  edge-done p q = then p q

@@ -4,11 +4,9 @@ use mathlib.Core.Path.{_≡_, refl, sym, ap, ap₂, _∙_}
 use mathlib.Core.Bool.{Bool, true, false, cond}
 use mathlib.Core.List.{List, [], _∷_, _++_, append-nil}
 use Prim.Native.Nat.{ℕ, _+_, _*_, _≤_, _<_}
-use native.Mathlib.Nat.{zero-add}
 use native.Mathlib.Omega.{arith}
 use lib.Count.{ones}
-use lib.ListN.{length, getD, drop, length-append}
-use lib.Seq.{sets, sets-eq}
+use lib.ListN.{length, getD, length-append}
 use Rattle.laws.specs.Terms.{digit, bit, each, range}
 use Rattle.laws.specs.Lists.{each-same, each-append, range-out}
 use Rattle.laws.specs.Sets.{bit-none}
@@ -25,8 +23,8 @@ use Rattle.listing.specs.Answer.{listedIn}
 use Rattle.sets.specs.declared.Firsts.{Firsts}
 use Rattle.sets.specs.declared.Found.{Found}
 use Rattle.path_sets.specs.Parts.{FirstsBy, FoundBy}
-use Rattle.laws.specs.Laid.{Laid, laid-next, laid-room}
-use Rattle.listing.specs.Laying.{entryBytes, wordBytes, edgeBytes}
+use Rattle.lent.specs.Adding.{Adds}
+use Rattle.listing.specs.Laying.{entryBytes, wordBytes, edgeBytes, one-more, room-more}
 
 abbrev pairBytes : Pair → List ℕ
 pairBytes p = p .kind ∷ p .first ∷ p .third ∷ p .second ∷ p .outcome ∷ []
@@ -200,13 +198,9 @@ found-rows body f b = record {
   second = (b .fallen .assigned .size, (b .fallen .jumps .size, b .fallen .falls .size));
 }
 
--- the list from the first byte on
-pub from-start : (list out : List ℕ) → length list ≤ length out → sets out 0 list ≡ list ++ drop (length list) out
-from-start list out h = sets-eq list out 0 (omega arith) ∙ ap (λ n. list ++ drop n out) (zero-add (length list))
-
 -- one turn of the loop by blocks
-module _ (before variable a1 j1 f1 a2 j2 f2 out : List ℕ) (at s : ℕ)
-    (l : Laid before 0 (each (range 0 s) (blockBytes variable a1 j1 f1 a2 j2 f2)) out at) where
+module _ {before out : List ℕ} {at : ℕ} (variable a1 j1 f1 a2 j2 f2 : List ℕ) (s : ℕ)
+    (l : Adds before 0 out at (each (range 0 s) (blockBytes variable a1 j1 f1 a2 j2 f2))) where
   abbrev one : List ℕ
   one = edgeBytes (getD a1 s 0) (getD j1 s 0) (getD f1 s 0) (getD variable s 0) s 1
 
@@ -216,18 +210,15 @@ module _ (before variable a1 j1 f1 a2 j2 f2 out : List ℕ) (at s : ℕ)
   pub all-room : s < 64 → 0 + length (allBytes variable a1 j1 f1 a2 j2 f2) ≤ length before
       → at + length one + length two ≤ length out
   unfolding allBytes
-  all-room h room = laid-room before 0 (blockBytes variable a1 j1 f1 a2 j2 f2) 64 s one two out at refl h room l
+  all-room h room = room-more (blockBytes variable a1 j1 f1 a2 j2 f2) s one two refl l 64 h room
 
-  pub all-next : (out′ out″ : List ℕ) (at′ at″ : ℕ) → at′ ≡ at + length one → out′ ≡ sets out at one
-      → at″ ≡ at′ + length two → out″ ≡ sets out′ at′ two
-      → Laid before 0 (each (range 0 (s + 1)) (blockBytes variable a1 j1 f1 a2 j2 f2)) out″ at″
-  all-next out′ out″ at′ at″ a b c d = laid-next before 0
-      (blockBytes variable a1 j1 f1 a2 j2 f2) s one two out out′ out″ at at′ at″ refl l a b c d
+  pub all-next : {out′ out″ : List ℕ} {at′ at″ : ℕ} → Adds out at out′ at′ one → Adds out′ at′ out″ at″ two
+      → Adds before 0 out″ at″ (each (range 0 (s + 1)) (blockBytes variable a1 j1 f1 a2 j2 f2))
+  all-next = one-more (blockBytes variable a1 j1 f1 a2 j2 f2) s one two refl l
 
-  pub all-done : s ≡ 64 → (at ≡ 0 + length (allBytes variable a1 j1 f1 a2 j2 f2))
-      × (out ≡ sets before 0 (allBytes variable a1 j1 f1 a2 j2 f2))
+  pub all-done : s ≡ 64 → Adds before 0 out at (allBytes variable a1 j1 f1 a2 j2 f2)
   unfolding allBytes
-  all-done e = let m = rw e at l in (m .place, m .held)
+  all-done e = rw e at l
 
 -- ---- the answer for a body
 module _ (body : Body) (n room : ℕ) (is : n ≡ length (conflicts body)) where

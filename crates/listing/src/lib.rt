@@ -4,8 +4,9 @@ ghost use mathlib.Core.Path.{_≡_};
 ghost use Prim.Native.Nat.{_+_, _≤_, _<_};
 ghost use lib.ListN.{length};
 ghost use lib.Count.{ones};
+ghost use Rattle.lent.specs.Adding.{Adds};
 ghost use Rattle.form.specs.Conflict.{Sound, conflictBytes};
-ghost use Rattle.listing.specs.Laying.{entryBytes, wordBytes, edgeBytes, Wrote};
+ghost use Rattle.listing.specs.Laying.{entryBytes, wordBytes, edgeBytes};
 ghost use Rattle.listing.specs.Listing.{allBytes, bitsOf, firstsBits, Rows, FoundRows, foundBytes};
 ghost use Rattle.listing.specs.Answer.{listedIn, heldAfter, Answered};
 
@@ -27,7 +28,7 @@ fn entry(
     outcome: u8,
 ) -> usize
     requires { ⌜ ((first < 256) × (second < 256)) × (at + length (entryBytes on kind first third second outcome) ≤ length (now out)) ⌝ }
-    ensures { λ r. ⌜ Wrote at (entryBytes on kind first third second outcome) (now (out .entry)) r (now (out .exit)) ⌝ }
+    ensures { λ r. ⌜ Adds (now (out .entry)) at (now (out .exit)) r (entryBytes on kind first third second outcome) ⌝ }
 {
     if !on {
         return at;
@@ -53,7 +54,7 @@ fn entries(
     outcome: u8,
 ) -> usize
     requires { ⌜ (second < 256) × (start + length (wordBytes kind word third other another second outcome) ≤ length (now out)) ⌝ }
-    ensures { λ r. ⌜ Wrote start (wordBytes kind word third other another second outcome) (now (out .entry)) r (now (out .exit)) ⌝ }
+    ensures { λ r. ⌜ Adds (now (out .entry)) start (now (out .exit)) r (wordBytes kind word third other another second outcome) ⌝ }
 {
     let mut at = start;
     let mut f = 0;
@@ -79,7 +80,7 @@ fn edge_entries(
     outcome: u8,
 ) -> usize
     requires { ⌜ (second < 256) × (at + length (edgeBytes assigned jump fall variable second outcome) ≤ length (now out)) ⌝ }
-    ensures { λ r. ⌜ Wrote at (edgeBytes assigned jump fall variable second outcome) (now (out .entry)) r (now (out .exit)) ⌝ }
+    ensures { λ r. ⌜ Adds (now (out .entry)) at (now (out .exit)) r (edgeBytes assigned jump fall variable second outcome) ⌝ }
 {
     let next = entries(out, at, 1, assigned, variable, 0, 0, second, outcome);
     entries(out, next, 2, jump, 1, fall, 2, second, outcome)
@@ -117,7 +118,7 @@ fn all_entries(
     f2: &[u64],
 ) -> usize
     requires { ⌜ Rows (now variable) (now a1) (now j1) (now f1) (now a2) (now j2) (now f2) × (0 + length (allBytes (now variable) (now a1) (now j1) (now f1) (now a2) (now j2) (now f2)) ≤ length (now out)) ⌝ }
-    ensures { λ r. ⌜ Wrote 0 (allBytes (now (variable .entry)) (now (a1 .entry)) (now (j1 .entry)) (now (f1 .entry)) (now (a2 .entry)) (now (j2 .entry)) (now (f2 .entry))) (now (out .entry)) r (now (out .exit)) ⌝ }
+    ensures { λ r. ⌜ Adds (now (out .entry)) 0 (now (out .exit)) r (allBytes (now (variable .entry)) (now (a1 .entry)) (now (j1 .entry)) (now (f1 .entry)) (now (a2 .entry)) (now (j2 .entry)) (now (f2 .entry))) ⌝ }
 {
     let mut at = 0;
     let mut s = 0;
@@ -151,7 +152,7 @@ fn found_number(f: sets::Found) -> usize
 
 fn found_entries(out: &mut [u8], f: sets::Found) -> usize
     requires { ⌜ FoundRows f × (0 + length (foundBytes f) ≤ length (now out)) ⌝ }
-    ensures { λ r. ⌜ Wrote 0 (foundBytes f) (now (out .entry)) r (now (out .exit)) ⌝ }
+    ensures { λ r. ⌜ Adds (now (out .entry)) 0 (now (out .exit)) r (foundBytes f) ⌝ }
 {
     let variable = f.variable;
     let p = f.jumped;

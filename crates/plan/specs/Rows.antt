@@ -3,21 +3,20 @@
 use mathlib.Core.Bool.{Bool, true, false, cond, _&&_}
 use mathlib.Core.List.{List, [], _∷_, _++_}
 use mathlib.Core.Logic.{inl, inr, ⊎-elim}
-use mathlib.Core.Path.{_≡_, refl, ap, sym, subst, _∙_}
+use mathlib.Core.Path.{_≡_, refl, ap, sym, _∙_}
 use Prim.Native.Nat.{ℕ, zero, suc, _+_, _*_, _≤_, _<_}
 use native.Mathlib.Omega.{arith}
 use borrow.Author.Tests.{lt-ltb}
-use lib.Dec.{ltb, eqb}
-use lib.ListN.{length, getD, take, drop, length-append, List·getD-append}
-use lib.Seq.{getD-take, length-take-le, paste, getD-append-add}
+use lib.Dec.{eqb}
+use lib.ListN.{length, getD}
+use lib.Seq.{getD-take}
+use Rattle.lent.specs.Adding.{Adds, below, among}
 use Rattle.laws.specs.Terms.{Mem, bit, setOf}
-use Rattle.laws.specs.Tests.{split, clash, and-out}
 use Rattle.laws.specs.Sets.{bit-setOf, bit-setOf-beyond, below-or-not}
 use Rattle.form.specs.declared.Block.{Block}
 use Rattle.form.specs.declared.Body.{Body}
-use Rattle.form.specs.Conflict.{Edge, Pair, block, exitsBy, exits, wayTo, isTest, condition, touches, opposes, denies, listed, conflicts, same, secondOf, Holds, Sound, noBlock}
+use Rattle.form.specs.Conflict.{Edge, block, exitsBy, exits, wayTo, isTest, condition, touches, opposes, denies, listed, conflicts, same, Sound, noBlock}
 use Rattle.lower_laws.specs.Endings.{by-exits}
-use Rattle.lower_laws.specs.Blocks.{beyond}
 use Rattle.lower_laws.specs.Joined.{past-count, no-test, denies-test, opposes-test, listed-none}
 use Rattle.form.specs.Form.{when}
 use Rattle.sets.specs.declared.Sets.{Sets}
@@ -74,36 +73,18 @@ rowFrom sets k b = rowWith sets k b (when (eqb (k .ending) 3) 1 0)
 abbrev pub Rows : (ℕ → List ℕ) → ℕ → List ℕ → Type 0
 Rows row b plan = (c w : ℕ) → c < b → w < 16 → wordAt plan c w ≡ getD (row c) w 0
 
-paste-before : (d s : List ℕ) (at n i : ℕ) → i < at → at ≤ length d → getD (paste d at s n) i 0 ≡ getD d i 0
-paste-before d s at n i h l =
-    let here : i < length (take at d) = rw (length-take-le at d l) h in
-    List·getD-append (take at d ++ take n s) (drop (at + n) d) 0 i (simp length-append (omega arith))
-    ∙ (List·getD-append (take at d) (take n s) 0 i here ∙ getD-take at d i 0 h)
-
-paste-in : (d s : List ℕ) (at n i : ℕ) → i < n → n ≤ length s → at ≤ length d
-    → getD (paste d at s n) (at + i) 0 ≡ getD s i 0
-paste-in d s at n i h l m =
-    let size = length-take-le at d m in
-    let some = length-take-le n s l in
-    List·getD-append (take at d ++ take n s) (drop (at + n) d) 0 (at + i)
-    (simp length-append (omega (arith, size, some)))
-    ∙ (subst (λ (k : ℕ). getD (take at d ++ take n s) (k + i) 0 ≡ getD (take n s) i 0) size
-    (getD-append-add (take at d) (take n s) i 0)
-    ∙ getD-take n s i 0 h)
-
 pub rows-more :
-    (row : ℕ → List ℕ) (b : ℕ) (plan words : List ℕ) → length words ≡ 16 → 16 * b + 16 ≤ length plan → words ≡ row b
-    → Rows row b plan
-    → Rows row (b + 1) (paste plan (16 * b) words 16)
-rows-more row b plan words size room e read c w h l = ⊎-elim below here (below-or-not c b)
+    (row : ℕ → List ℕ) (b : ℕ) (plan new words : List ℕ) → Adds plan (16 * b) new (16 * b + 16) words
+    → length words ≡ 16 → 16 * b + 16 ≤ length plan → words ≡ row b → Rows row b plan → Rows row (b + 1) new
+rows-more row b plan new words adds size room e read c w h l = ⊎-elim before here (below-or-not c b)
   where
-    below : c < b → wordAt (paste plan (16 * b) words 16) c w ≡ getD (row c) w 0
-    below i = paste-before plan words (16 * b) 16 (16 * c + w) (omega arith) (omega arith) ∙ read c w i l
+    before : c < b → wordAt new c w ≡ getD (row c) w 0
+    before i = below adds (16 * c + w) (omega arith) ∙ read c w i l
 
-    here : b ≤ c → wordAt (paste plan (16 * b) words 16) c w ≡ getD (row c) w 0
+    here : b ≤ c → wordAt new c w ≡ getD (row c) w 0
     here i =
         let same : c ≡ b = omega arith in
-        rw same (paste-in plan words (16 * b) 16 w l (omega arith) (omega arith) ∙ ap (λ (x : List ℕ). getD x w 0) e)
+        rw same (among adds (omega arith) w (omega arith) ∙ ap (λ (x : List ℕ). getD x w 0) e)
 
 -- ---- the rows of a body's sets
 

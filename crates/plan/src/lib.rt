@@ -4,7 +4,7 @@ ghost use mathlib.Core.Path.{_≡_};
 ghost use Prim.Native.Nat.{ℕ, _+_, _*_, _≤_, _<_};
 ghost use lib.Dec.{eqb};
 ghost use lib.ListN.{length};
-ghost use lib.Seq.{paste};
+ghost use Rattle.lent.specs.Adding.{Adds};
 ghost use Rattle.form.specs.Conflict.{Sound};
 ghost use Rattle.form.specs.Form.{when};
 ghost use Rattle.theory.specs.Plan.{Planned};
@@ -18,7 +18,7 @@ pub mod route;
 // A row of words copied into the plan at block b.
 fn put_row(plan: &mut [u64], b: usize, row: &[u64])
     requires { ⌜ (length (now row) ≡ 16) × (16 * b + 16 ≤ length (now plan)) ⌝ }
-    ensures { λ _. ⌜ now (plan .exit) ≡ paste (now (plan .entry)) (16 * b) (now (row .entry)) 16 ⌝ }
+    ensures { λ _. ⌜ Adds (now (plan .entry)) (16 * b) (now (plan .exit)) (16 * b + 16) (now (row .entry)) ⌝ }
 {
     let mut w = 0;
     while w < 16 {

@@ -26,7 +26,7 @@ use Rattle.ways.specs.Sweep.{own-answered}
 use Rattle.report.specs.Report.{walkedLine, blocksWord, iterationsWord, conflictsWord, weightWord, boundWord, keptWord, noRoute, budget, Reported}
 use Rattle.text.specs.Text.{line, refusalLine, routeLine}
 use Rattle.report.specs.Report.Reported.{refused, reported}
-use Rattle.lent.specs.Adding.{Adds, then}
+use Rattle.lent.specs.Adding.{Adds, then, up-to-end}
 
 -- the walk's line, from an answer that the walk owes
 pub record WalkedAdds (form before : List ℕ) (at : ℕ) (after : List ℕ) (r : ℕ) : Type 0 where
@@ -108,18 +108,19 @@ pub routed-reported : (form o mid p : List ℕ) (a r : ℕ) (route : List ℕ) (
     (iterations weight bound kept : ℕ)
     → OwnTableOwed form noRoute answer route → answer ≡ Routed iterations weight bound kept
     → (judge form ≡ Accepted → Adds o 0 mid a (fiveLines (bodyOf form) iterations weight bound))
-    → ThreeAdds form mid a p r kept route → Reported form (take r p)
-routed-reported form o mid p a r route answer iterations weight bound kept says e five three =
+    → ThreeAdds form mid a p r kept route → r ≤ length o → Reported form (take r p)
+routed-reported form o mid p a r route answer iterations weight bound kept says e five three room =
     let owed = shown-owed form noRoute route answer (Routed iterations weight bound kept) says e in
     let accepted = own-answered form noRoute iterations weight bound kept route owed .accepted in
     reported iterations weight bound kept route owed (three .walk) (three .held) (three .owed)
-    (then (five accepted) (three .adds) .holds
+    (up-to-end (then (five accepted) (three .adds)) room
     ∙ five-and-three (line blocksWord (bodyOf form .count)) (line iterationsWord iterations)
     (line conflictsWord (length (conflicts (bodyOf form)))) (line weightWord weight) (line boundWord bound)
     (routeLine route ++ (line keptWord kept ++ walkedLine (three .walk))))
 
 pub refused-reported : (form o p : List ℕ) (r : ℕ) (route : List ℕ) (answer : SweepAnswer) (number place : ℕ)
     → OwnTableOwed form noRoute answer route → answer ≡ Unswept number place → Adds o 0 p r (refusalLine number place)
-    → Reported form (take r p)
-refused-reported form o p r route answer number place says e adds =
-    refused number place route (shown-owed form noRoute route answer (Unswept number place) says e) (adds .holds)
+    → r ≤ length o → Reported form (take r p)
+refused-reported form o p r route answer number place says e adds room =
+    refused number place route (shown-owed form noRoute route answer (Unswept number place) says e)
+    (up-to-end adds room)

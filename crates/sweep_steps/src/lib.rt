@@ -17,8 +17,8 @@ ghost use Rattle.sweep_steps.specs.Driven.{started, following, finished}
 ghost use Rattle.sweep_steps.specs.Ends.{allowedOf, WeightFew, answerOf, concluded};
 ghost use Rattle.sweep_steps.specs.declared.SweepAnswer.the-variants.{Refused};
 use entries::Entry;
-use plan::Prepared;
 use entries::Way;
+use plan::Prepared;
 use rows::Tails;
 
 // An entry into a row's words, as its entry p.

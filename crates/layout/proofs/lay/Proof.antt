@@ -11,7 +11,8 @@ use lib.Seq.{getD-take, length-take-le}
 use Rattle.form.specs.declared.Block.{Block}
 use Rattle.form.specs.declared.Body.{Body}
 use Rattle.form.specs.Form.{counterBytes, layBlocks, lay, sumOwn, zeroBlock}
-use Rattle.form.specs.Laying.{lay-more, sum-step, sum-end, blocks-laid, blocks-end, counts-known}
+use Rattle.form.specs.Laying.{sum-step, sum-end, blocks-laid, blocks-end, counts-known}
+use Rattle.lent.specs.Adding.{up-to-end}
 use Rattle.layout.proofs.lay.Statement.{statement}
 use Rattle.layout.proofs.lay.Tie as tie
 
@@ -48,7 +49,7 @@ body c = entry c .args .body
 began : (c : tie.At-loop Inv-loop μ-loop) → c .before .before .before .put .result ≡ 17
 began c =
     let copied = c .before .before .before in
-    omega (arith, copied .put .ensures .0 .0, seventeen (copied .before .before .before))
+    omega (arith, copied .put .ensures .end, seventeen (copied .before .before .before))
 
 room : (c : tie.At-loop Inv-loop μ-loop) → 3665 ≤ length (c .loop .buf)
 room c = omega (arith, c .before .before .before .put .kept .0, entry c .pre .1)
@@ -108,10 +109,19 @@ loop-again c =
     let laid = c .before .before .before in
     let turn = laid .before .before .before in
     let loop = turn .before .loop in
+    let after : laid .lay-block .result ≤ length (loop .buf) =
+    omega (
+      arith,
+      sum turn,
+      known (turn .before),
+      began (turn .before),
+      room (turn .before),
+      laid .lay-block .ensures .0,
+    ) in
     let whole =
     blocks-laid (blocks turn) (loop .k) (body (turn .before) .effects) (loop .e) (inside turn) (block turn) (here turn)
     (take (loop .at) (loop .buf)) (take (laid .lay-block .result) (laid .lay-block .last .0)) _ (loop .inv .0)
-    (laid .lay-block .ensures .1) in
+    (up-to-end (laid .lay-block .ensures .1) after) in
     rw (add-one (loop .k))
     (whole, omega (arith, sum turn, laid .lay-block .ensures .0, laid .lay-block .kept .0, turn .loop-test .taken))
 
@@ -125,9 +135,8 @@ counted : (c : tie.At-loop Inv-loop μ-loop)
 counted c =
     let copied = c .before .before .before in
     let made = copied .before .before .before in
-    (λ i. take (copied .put .ensures .0 .0 i) (copied .put .ensures .0 .1 i))
-    ∙ (lay-more (entry c .args .buf .now) (made .counter-bytes .result) [] 0 (omega arith) refl
-    ∙ made .counter-bytes .ensures)
+    up-to-end (copied .put .ensures) (omega (arith, copied .put .ensures .end, seventeen made, entry c .pre .1))
+    ∙ made .counter-bytes .ensures
 
 returns : tie.Need-returns Inv-loop μ-loop
 unfolding lay

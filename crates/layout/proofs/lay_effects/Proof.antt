@@ -1,20 +1,19 @@
--- `layout::lay_effects` meets its contract. The loop's invariant: up to `to` stand what stood before `at` and then the
--- first j effects. The measure is the effects to come.
-use mathlib.Core.List.{_++_, append-nil}
+-- `layout::lay_effects` meets its contract. The loop's invariant: the first j effects stand from `at` on, up to `to`.
+-- The measure is the effects to come.
 use mathlib.Core.Path.{_≡_, sym, ap, _∙_}
 use Prim.Native.Nat.{_+_, _*_, _≤_, _-_, _<_}
-use native.Mathlib.Numerals.{add-one}
 use native.Mathlib.Omega.{arith}
 use lib.ListN.{length, take, drop, length-drop}
 use lib.Seq.{getD-drop}
 use Rattle.form.specs.Form.{layEffects, effectBytes, zeroEffect}
-use Rattle.form.specs.Laying.{effects-laid, effects-none}
+use Rattle.form.specs.Laying.{effects-next, effects-none}
+use Rattle.lent.specs.Adding.{Adds, then, nothing, told}
 use Rattle.layout.proofs.lay_effects.Statement.{statement}
 use Rattle.layout.proofs.lay_effects.Tie as tie
 
 abbrev Inv-loop : tie.InvT-loop
 Inv-loop buf₀ at from n effects to₀ j₀ buf to j =
-    (take to buf ≡ take at buf₀ ++ layEffects (take j (drop from effects)))
+    Adds buf₀ at buf to (layEffects (take j (drop from effects)))
     × ((to ≡ at + 10 * j) × ((j ≤ n) × (length buf ≡ length buf₀)))
 
 abbrev μ-loop : tie.MeasureT-loop
@@ -22,7 +21,7 @@ abbrev μ-loop : tie.MeasureT-loop
 
 loop-holds : tie.Need-loop-holds Inv-loop μ-loop
 loop-holds c = (
-  rw (effects-none (drop (c .before .args .from) (c .before .args .t3))) (sym (append-nil _)),
+  told (sym (effects-none (drop (c .before .args .from) (c .before .args .t3)))) (nothing _ _),
   omega arith,
 )
 
@@ -44,13 +43,11 @@ loop-again c =
     let rest = drop (start .args .from) (start .args .t3) in
     let in-effects : at-loop .loop .j < length rest =
     simp length-drop (omega (arith, start .good .1 .1 .0 .1 .0 .1)) in (
-      rw (copied .put .ensures .0 .0, copied .put .ensures .0 .1, add-one (at-loop .loop .j))
-          (effects-laid (at-loop .loop .buf) _ (take (start .args .at) (start .args .buf .now)) (at-loop .loop .to) rest
-          (at-loop .loop .j)
-          (omega arith) in-effects (at-loop .loop .inv .0)
+      told (effects-next rest (at-loop .loop .j) _ in-effects
           (made .effect-bytes .ensures
-          ∙ ap effectBytes (sym (getD-drop (start .args .from) (start .args .t3) (at-loop .loop .j) zeroEffect)))),
-      omega (arith, ten made),
+          ∙ ap effectBytes (sym (getD-drop (start .args .from) (start .args .t3) (at-loop .loop .j) zeroEffect))))
+          (then (at-loop .loop .inv .0) (copied .put .ensures)),
+      omega (arith, ten made, copied .put .ensures .end),
     )
 
 same-length : tie.Need-same-length Inv-loop μ-loop

@@ -3,28 +3,28 @@
 use Prim.Native.Nat.{_-_, _≤_}
 use native.Mathlib.Omega.{arith}
 use Rattle.laws.specs.Terms.{each, range}
-use Rattle.laws.specs.Laid.{Laid, laid-none, laid-length}
+use Rattle.lent.specs.Adding.{Adds, nothing, as-long}
 use Rattle.listing.specs.Listing.{blockBytes, all-room, all-next, all-done}
 use Rattle.listing.proofs.all_entries.Statement.{statement}
 use Rattle.listing.proofs.all_entries.Tie as tie
 
 abbrev Inv-loop : tie.InvT-loop
 Inv-loop out₀ variable a1 j1 f1 a2 j2 f2 at₀ s₀ out at s = (s ≤ 64)
-    × Laid out₀ 0 (each (range 0 s) (blockBytes variable a1 j1 f1 a2 j2 f2)) out at
+    × Adds out₀ 0 out at (each (range 0 s) (blockBytes variable a1 j1 f1 a2 j2 f2))
 
 abbrev μ-loop : tie.MeasureT-loop
 μ-loop out₀ variable a1 j1 f1 a2 j2 f2 at₀ s₀ out at s = 64 - s
 
 loop-holds : tie.Need-loop-holds Inv-loop μ-loop
-loop-holds c = (omega arith, laid-none _ _)
+loop-holds c = (omega arith, nothing _ _)
 
 edge-entries-requires : tie.Need-edge-entries-requires Inv-loop μ-loop
 edge-entries-requires c κs =
     let at = c .before .before .before .before .before .before in
     let start = at .before .before .before .before .before .before .before .before .before in
     let a = start .args in
-    let room = all-room (a .out .now) (a .variable .now) (a .a1 .now) (a .j1 .now) (a .f1 .now) (a .a2 .now)
-    (a .j2 .now) (a .f2 .now) (at .loop .out) (at .loop .at) (at .loop .s) (at .loop .inv .1) (omega arith)
+    let room = all-room (a .variable .now) (a .a1 .now) (a .j1 .now) (a .f1 .now) (a .a2 .now)
+    (a .j2 .now) (a .f2 .now) (at .loop .s) (at .loop .inv .1) (omega arith)
     (start .pre .1) in
     (omega arith, omega (arith, room))
 
@@ -35,10 +35,10 @@ edge-entries-requires-2 c κs =
     let start = at .before .before .before .before .before .before .before .before .before in
     let a = start .args in
     let first = c .before .before .before .before .before .before in
-    let room = all-room (a .out .now) (a .variable .now) (a .a1 .now) (a .j1 .now) (a .f1 .now) (a .a2 .now)
-    (a .j2 .now) (a .f2 .now) (at .loop .out) (at .loop .at) (at .loop .s) (at .loop .inv .1) (omega arith)
+    let room = all-room (a .variable .now) (a .a1 .now) (a .j1 .now) (a .f1 .now) (a .a2 .now)
+    (a .j2 .now) (a .f2 .now) (at .loop .s) (at .loop .inv .1) (omega arith)
     (start .pre .1) in
-    (omega arith, omega (arith, room, first .edge-entries .ensures .0, first .edge-entries .kept .0))
+    (omega arith, omega (arith, room, first .edge-entries .ensures .end, first .edge-entries .kept .0))
 
 loop-again : tie.Need-loop-again Inv-loop μ-loop
 loop-again c =
@@ -49,21 +49,20 @@ loop-again c =
     let first = c .before .before .before .before .before .before .before .before .before in
     let second = c .before .before in (
       omega arith,
-      all-next (a .out .now) (a .variable .now) (a .a1 .now) (a .j1 .now) (a .f1 .now) (a .a2 .now) (a .j2 .now)
-          (a .f2 .now) (at .loop .out) (at .loop .at) (at .loop .s) (at .loop .inv .1) _ _ _ _
-          (first .edge-entries .ensures .0) (first .edge-entries .ensures .1) (second .edge-entries2 .ensures .0)
-          (second .edge-entries2 .ensures .1),
+      all-next (a .variable .now) (a .a1 .now) (a .j1 .now) (a .f1 .now) (a .a2 .now) (a .j2 .now)
+          (a .f2 .now) (at .loop .s) (at .loop .inv .1) (first .edge-entries .ensures)
+          (second .edge-entries2 .ensures),
     )
 
 same-length : tie.Need-same-length Inv-loop μ-loop
-same-length c = laid-length _ _ _ _ _ (c .before .loop .inv .1)
+same-length c = as-long (c .before .loop .inv .1)
 
 returns : tie.Need-returns Inv-loop μ-loop
 returns c =
     let at = c .before in
     let a = at .before .before .before .before .before .before .before .before .before .args in
-    all-done (a .out .now) (a .variable .now) (a .a1 .now) (a .j1 .now) (a .f1 .now) (a .a2 .now) (a .j2 .now)
-    (a .f2 .now) (at .loop .out) (at .loop .at) (at .loop .s) (at .loop .inv .1) (omega arith)
+    all-done (a .variable .now) (a .a1 .now) (a .j1 .now) (a .f1 .now) (a .a2 .now) (a .j2 .now)
+    (a .f2 .now) (at .loop .s) (at .loop .inv .1) (omega arith)
 
 pub all-entries-spec : {M : Type 1} → statement M
 all-entries-spec =

@@ -27,7 +27,7 @@ entries-requires-2 c κs =
         edge-length (start .args .assigned) (start .args .jump)
             (start .args .fall) (start .args .variable) (start .args .second)
             (start .args .outcome),
-        c .before .before .before .entries .ensures .0,
+        c .before .before .before .entries .ensures .end,
         c .before .before .before .entries .kept .0,
       ),
     )
@@ -36,10 +36,8 @@ returns : tie.Need-returns
 returns c =
     let start = c .before .before .before .before .before .before .before .before .before in
     edge-done (start .args .assigned) (start .args .jump) (start .args .fall) (start .args .variable)
-    (start .args .second) (start .args .outcome) (start .args .out .now) _ _ (start .args .at) _ _
-    (c .before .before .before .before .before .before .entries .ensures .0)
-    (c .before .before .before .before .before .before .entries .ensures .1)
-    (c .before .before .entries2 .ensures .0) (c .before .before .entries2 .ensures .1)
+    (start .args .second) (start .args .outcome) (c .before .before .before .before .before .before .entries .ensures)
+    (c .before .before .entries2 .ensures)
 
 pub edge-entries-spec : {M : Type 1} → statement M
 edge-entries-spec =

@@ -3,7 +3,7 @@
 use Prim.Native.Nat.{_-_, _≤_}
 use native.Mathlib.Omega.{arith}
 use Rattle.laws.specs.Terms.{each, range}
-use Rattle.laws.specs.Laid.{Laid, laid-none, laid-length}
+use Rattle.lent.specs.Adding.{Adds, nothing, as-long}
 use Rattle.listing.specs.Laying.{turnBytes, turn-room, turn-next, word-done}
 use borrow.Author.Needs.{needs}
 use Rattle.listing.proofs.entries.Statement.{statement}
@@ -11,22 +11,21 @@ use Rattle.listing.proofs.entries.Tie as tie
 
 abbrev Inv-loop : tie.InvT-loop
 Inv-loop out₀ start kind word third other another second outcome at₀ f₀ out at f =
-    (f ≤ 64) × Laid out₀ start (each (range 0 f) (turnBytes kind word third other another second outcome)) out at
+    (f ≤ 64) × Adds out₀ start out at (each (range 0 f) (turnBytes kind word third other another second outcome))
 
 abbrev μ-loop : tie.MeasureT-loop
 μ-loop out₀ start kind word third other another second outcome at₀ f₀ out at f = 64 - f
 
 loop-holds : tie.Need-loop-holds Inv-loop μ-loop
-loop-holds c = (omega arith, laid-none _ _)
+loop-holds c = (omega arith, nothing _ _)
 
 entry-requires : tie.Need-entry-requires Inv-loop μ-loop
 entry-requires c κs =
     let at = c .before .before .before .before in
     let start = at .before .before in
     let room =
-    turn-room (start .args .out .now) (start .args .start) (start .args .kind) (start .args .word)
-    (start .args .third) (start .args .other) (start .args .another) (start .args .second) (start .args .outcome)
-    (at .loop .out) (at .loop .at) (at .loop .f) _ _
+    turn-room (start .args .kind) (start .args .word) (start .args .third) (start .args .other) (start .args .another)
+    (start .args .second) (start .args .outcome) (at .loop .f)
     (c .before .before .has .ensures) (c .before .has2 .ensures) (at .loop .inv .1) (omega arith) (start .pre .1) in
     ((omega arith, start .pre .0), omega arith)
 
@@ -36,38 +35,33 @@ entry-requires-2 c κs =
     let start = at .before .before in
     let first = c .before .before .before in
     let room =
-    turn-room (start .args .out .now) (start .args .start) (start .args .kind) (start .args .word)
-    (start .args .third) (start .args .other) (start .args .another) (start .args .second) (start .args .outcome)
-    (at .loop .out) (at .loop .at) (at .loop .f) _ _
+    turn-room (start .args .kind) (start .args .word) (start .args .third) (start .args .other) (start .args .another)
+    (start .args .second) (start .args .outcome) (at .loop .f)
     (c .before .before .before .before .before .before .has .ensures)
     (c .before .before .before .before .before .has2 .ensures) (at .loop .inv .1) (omega arith) (start .pre .1) in
-    ((omega arith, start .pre .0), omega (arith, first .entry .ensures .0, first .entry .kept .0))
+    ((omega arith, start .pre .0), omega (arith, first .entry .ensures .end, first .entry .kept .0))
 
 loop-again : tie.Need-loop-again Inv-loop μ-loop
 loop-again c =
     let at = c .before .before .before .before .before .before .before .before .before .before .before in
-    let start = at .before .before in
-    let first = c .before .before .before .before .before .before in
-    let second = c .before .before in (
+    let start = at .before .before in (
       omega arith,
-      turn-next (start .args .out .now) (start .args .start) (start .args .kind) (start .args .word)
-          (start .args .third) (start .args .other) (start .args .another) (start .args .second)
-          (start .args .outcome) (at .loop .out) (at .loop .at) (at .loop .f) _ _
+      turn-next (start .args .kind) (start .args .word) (start .args .third) (start .args .other) (start .args .another)
+          (start .args .second) (start .args .outcome) (at .loop .f)
           (c .before .before .before .before .before .before .before .before .before .has .ensures)
-          (c .before .before .before .before .before .before .before .before .has2 .ensures)
-          (at .loop .inv .1) _ _ _ _ (first .entry .ensures .0) (first .entry .ensures .1)
-          (second .entry2 .ensures .0) (second .entry2 .ensures .1),
+          (c .before .before .before .before .before .before .before .before .has2 .ensures) (at .loop .inv .1)
+          (c .before .before .before .before .before .before .entry .ensures) (c .before .before .entry2 .ensures),
     )
 
 same-length : tie.Need-same-length Inv-loop μ-loop
-same-length c = laid-length _ _ _ _ _ (c .before .loop .inv .1)
+same-length c = as-long (c .before .loop .inv .1)
 
 returns : tie.Need-returns Inv-loop μ-loop
 returns c =
     let start = c .before .before .before in
-    word-done (start .args .out .now) (start .args .start) (start .args .kind) (start .args .word)
-    (start .args .third) (start .args .other) (start .args .another) (start .args .second) (start .args .outcome)
-    (c .before .loop .out) (c .before .loop .at) (c .before .loop .f) (omega arith) (c .before .loop .inv .1)
+    word-done (start .args .kind) (start .args .word) (start .args .third) (start .args .other) (start .args .another)
+    (start .args .second) (start .args .outcome) (c .before .loop .f)
+    (omega arith) (c .before .loop .inv .1)
 
 pub entries-spec : {M : Type 1} → statement M
 entries-spec =

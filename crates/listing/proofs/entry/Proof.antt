@@ -1,15 +1,15 @@
 -- `listing::entry` meets its contract.
-use mathlib.Core.Path.{refl}
 use native.Mathlib.Omega.{arith}
 use lib.ListN.{length-set}
-use Rattle.laws.specs.Laid.{five}
+use Rattle.lent.specs.Adding.{nothing}
+use Rattle.listing.specs.Laying.{five}
 use borrow.Author.Tests.{not-true, not-false}
 use borrow.Author.Needs.{needs}
 use Rattle.listing.proofs.entry.Statement.{statement}
 use Rattle.listing.proofs.entry.Tie as tie
 
 returns : tie.Need-returns
-returns c = let off = not-true (c .before .args .on) (c .if1 .taken) in rw off (omega arith, refl)
+returns c = let off = not-true (c .before .args .on) (c .if1 .taken) in rw off (nothing _ _)
 
 slice-write-out : tie.Need-slice-write-out
 slice-write-out c = let room = rw (not-false (c .before .args .on) (c .if1 .left)) at (c .before .pre .1) in omega arith
@@ -35,11 +35,7 @@ slice-write-out-5 c =
     simp length-set (omega arith)
 
 returns-2 : tie.Need-returns-2
-returns-2 c = let on = not-false (c .before .args .on) (c .if1 .left) in rw on (
-  refl,
-  five (c .before .args .out .now) (c .before .args .at) (c .before .args .kind) (c .before .args .first)
-      (c .before .args .third) (c .before .args .second) (c .before .args .outcome),
-)
+returns-2 c = let on = not-false (c .before .args .on) (c .if1 .left) in rw on (five _ _ _ _ _ _ _)
 
 pub entry-spec : {M : Type 1} → statement M
 entry-spec =

@@ -4,11 +4,10 @@ use mathlib.Core.List.{List}
 use Prim.Native.Nat.{ℕ, _+_}
 use native.Mathlib.Omega.{arith}
 use lib.ListN.{length}
-use lib.Seq.{sets}
-use Rattle.form.specs.Conflict.{conflictBytes}
+use Rattle.lent.specs.Adding.{told, from-start}
 use Rattle.sets.specs.Worded.{worded}
 use Rattle.path_sets.specs.Finding.{found-told}
-use Rattle.listing.specs.Listing.{found-rows, number-is, bytes-are, too-few, enough, has-room, from-start}
+use Rattle.listing.specs.Listing.{found-rows, number-is, bytes-are, too-few, enough, has-room}
 use borrow.Author.Needs.{needs}
 use Rattle.listing.proofs.list_of.Statement.{statement}
 use Rattle.listing.proofs.list_of.Tie as tie
@@ -70,9 +69,9 @@ returns-2 c =
     let same = bytes-are body (start .pre .few) _ _ _ (f .variables) (f .jumped) (f .fallen) in
     let out = start .args .out .now in (
       enough body _ _ is _ (wrote .before .before .if1 .left)
-          (wrote .found-entries .ensures .0 ∙ ap (λ (l : List ℕ). 0 + length l) same),
-      wrote .found-entries .ensures .1 ∙ ap (λ (l : List ℕ). sets out 0 l) same
-          ∙ from-start (conflictBytes body) out (has-room body _ (length out) is (wrote .before .before .if1 .left)),
+          (wrote .found-entries .ensures .end ∙ ap (λ (l : List ℕ). 0 + length l) same),
+      from-start (told same (wrote .found-entries .ensures))
+          (has-room body _ (length out) is (wrote .before .before .if1 .left)),
     )
 
 pub list-of-spec : {M : Type 1} → statement M

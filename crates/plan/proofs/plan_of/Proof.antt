@@ -54,11 +54,8 @@ loop-again c =
     let sets = made .sets-of .result in
     let blocks = made .before .before .args .body .blocks in
     let row : ℕ → List ℕ = λ k. rowFrom sets (getD blocks k noBlock) k in (
-      rw (wrote .put-row .ensures)
-          (rows-more row (loop .b) (loop .plan)
-          (rowWith sets (getD blocks (loop .b) noBlock) (loop .b) (tested .test-word .result)) refl
-          (omega (arith, below, loop .inv .1))
-          (ap (rowWith sets (getD blocks (loop .b) noBlock) (loop .b)) (tested .test-word .ensures)) (loop .inv .0)),
+      rows-more row (loop .b) (loop .plan) _ _ (wrote .put-row .ensures) refl (omega (arith, below, loop .inv .1))
+          (ap (rowWith sets (getD blocks (loop .b) noBlock) (loop .b)) (tested .test-word .ensures)) (loop .inv .0),
       omega (arith, below, loop .inv .1, wrote .put-row .kept .0),
     )
 

@@ -13,7 +13,8 @@ returns c =
     let told = first .before .before .before in
     let asked = told .before .before .before in (
       routed-reported _ _ _ _ _ _ _ _ _ _ _ _ (asked .sweep-own .ensures) (told .iterations .given .1)
-          (first .five-lines .ensures .0) (last .three-lines .ensures),
+          (first .five-lines .ensures .0) (last .three-lines .ensures)
+          (omega (arith, first .five-lines .ensures .1, last .three-lines .ensures .few)),
       omega (
         arith,
         first .five-lines .ensures .1,
@@ -26,7 +27,8 @@ returns-2 c =
     let last = c .before .before in
     let told = last .before .before .before in
     let asked = told .before .before .before in (
-      refused-reported _ _ _ _ _ _ _ _ (asked .sweep-own .ensures) (told .number .given .1) (last .refused .ensures .0),
+      refused-reported _ _ _ _ _ _ _ _ (asked .sweep-own .ensures) (told .number .given .1) (last .refused .ensures .0)
+          (omega (arith, last .refused .ensures .1)),
       omega (arith, last .refused .ensures .1),
     )
 

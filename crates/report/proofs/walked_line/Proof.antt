@@ -18,8 +18,8 @@ returns-2 c =
     let added = c .before .before in
     let told = added .before .before .before in
     let asked = told .before .before .before in
-    walked-shown _ _ _ _ _ _ _ _ (asked .walk .ensures) (told .enum-told .given .1) (added .put .ensures .1)
-    (omega (arith, added .put .ensures .1 .end))
+    walked-shown _ _ _ _ _ _ _ _ (asked .walk .ensures) (told .enum-told .given .1) (added .put .ensures)
+    (omega (arith, added .put .ensures .end))
 
 pub walked-line-spec : {M : Type 1} → statement M
 walked-line-spec =

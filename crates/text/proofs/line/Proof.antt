@@ -10,8 +10,8 @@ returns c =
     let third = c .before .before in
     let second = third .before .before .before .before .before in
     let first = second .before .before .before .before in (
-      then (first .put .ensures .1) (then (second .number .ensures .0) (third .put2 .ensures .1)),
-      omega (arith, first .put .ensures .1 .end, second .number .ensures .1, third .put2 .ensures .1 .end),
+      then (first .put .ensures) (then (second .number .ensures .0) (third .put2 .ensures)),
+      omega (arith, first .put .ensures .end, second .number .ensures .1, third .put2 .ensures .end),
     )
 
 pub line-spec : {M : Type 1} → statement M

@@ -25,10 +25,10 @@ put-requires c κs =
 returns : tie.Need-returns
 returns c =
     let called = c .before .before .before .before .before in (
-      rw (same called) at (c .before .before .put .ensures .1),
+      rw (same called) at (c .before .before .put .ensures),
       omega (
         arith,
-        c .before .before .put .ensures .1 .end,
+        c .before .before .put .ensures .end,
         ap length (same called),
         digits-few 20 (called .before .before .before .args .n),
       ),

@@ -10,8 +10,8 @@ returns c =
     let third = c .before .before in
     let second = third .before .before .before .before .before in
     let first = second .before .before .before .before in (
-      then (first .put .ensures .1) (then (second .number .ensures .0) (third .line .ensures .0)),
-      omega (arith, first .put .ensures .1 .end, second .number .ensures .1, third .line .ensures .1),
+      then (first .put .ensures) (then (second .number .ensures .0) (third .line .ensures .0)),
+      omega (arith, first .put .ensures .end, second .number .ensures .1, third .line .ensures .1),
     )
 
 pub refused-spec : {M : Type 1} → statement M

@@ -27,7 +27,7 @@ room : (c : tie.At-loop Inv-loop μ-loop) → c .loop .to + 1 + 22 * (64 - c .lo
 room c =
     omega (
       arith,
-      c .before .before .before .put .ensures .1 .end,
+      c .before .before .before .put .ensures .end,
       c .before .before .before .put .kept .0,
       entry c .pre,
     )
@@ -63,9 +63,9 @@ returns c =
     let last = c .before .before in
     let head = last .before .before .before .before in
     let first = head .before .before .before in (
-      then (first .put .ensures .1)
-          (then (ended (head .loop .inv .0) (omega (arith, ways head))) (last .put2 .ensures .1)),
-      omega (arith, first .put .ensures .1 .end, last .put2 .ensures .1 .end),
+      then (first .put .ensures)
+          (then (ended (head .loop .inv .0) (omega (arith, ways head))) (last .put2 .ensures)),
+      omega (arith, first .put .ensures .end, last .put2 .ensures .end),
     )
 
 pub route-spec : {M : Type 1} → statement M

@@ -15,10 +15,10 @@ returns-2 c =
     let third = c .before .before in
     let second = third .before .before .before .before .before .before in
     let first = second .before .before .before .before in
-    let last = rw (third .before .before .before .letter .ensures) at (third .put2 .ensures .1) in (
+    let last = rw (third .before .before .before .letter .ensures) at (third .put2 .ensures) in (
       rw (ne-eqb _ 0 (first .before .before .before .if1 .left))
-          (then (first .put .ensures .1) (then (second .number .ensures .0) last)),
-      omega (arith, first .put .ensures .1 .end, second .number .ensures .1, third .put2 .ensures .1 .end),
+          (then (first .put .ensures) (then (second .number .ensures .0) last)),
+      omega (arith, first .put .ensures .end, second .number .ensures .1, third .put2 .ensures .end),
     )
 
 pub step-spec : {M : Type 1} → statement M

@@ -6,7 +6,7 @@ use borrow.Author.Tests.{not-true, not-false}
 use lib.ListN.{length, take}
 use Rattle.form.specs.Form.{judge, lay, countsFit}
 use Rattle.form.specs.Writing.{wrote-as, counts-refused, held-refused, form-refused, room-short, room-enough}
-use Rattle.form.specs.Writing.{pasted-front}
+use Rattle.lent.specs.Adding.{told, from-start}
 use borrow.Author.Needs.{needs}
 use Rattle.writer.proofs.write.Statement.{statement}
 use Rattle.writer.proofs.write.Tie as tie
@@ -74,7 +74,8 @@ returns-4 c =
     wrote-as _ _ _ _
     (rw (laid .lay .ensures .0)
     (room-enough _ _ (fit laid) _ (on-form judged) accepting (rw (laid .lay .ensures .0) at (roomy .if3 .left))))
-    (copied .put .ensures .0 .1 ∙ pasted-front _ _ _ (laid .lay .ensures .1 .1))
+    (from-start (told (laid .lay .ensures .1 .1) (copied .put .ensures))
+    (rw (laid .lay .ensures .0) at (roomy .if3 .left)))
 
 pub write-spec : {M : Type 1} → statement M
 write-spec =

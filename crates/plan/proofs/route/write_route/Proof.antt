@@ -1,41 +1,44 @@
--- `routes::route::write_route` meets its contract. The loop's invariant: the bytes of the blocks below b stand in the
--- lent bytes. The measure is what is left of the blocks.
-use Prim.Native.Nat.{_-_}
-use mathlib.Core.Path.{refl}
+-- `write_route` meets its contract. The loop's invariant: the bytes of the blocks below b stand in the lent bytes. The
+-- measure is what is left of the blocks.
+use Prim.Native.Nat.{_-_, _≤_}
+use mathlib.Core.Path.{_≡_, refl}
 use native.Mathlib.Omega.{arith}
-use Rattle.plan.specs.RouteWords.{Written, written-none, written-more, written-all}
+use lib.ListN.{length}
+use Rattle.lent.specs.Adding.{Adds, nothing, as-long}
+use Rattle.plan.specs.RouteWords.{bytesBelow, written-more, written-all}
 use Rattle.plan.proofs.route.write_route.Statement.{statement}
 use Rattle.plan.proofs.route.write_route.Tie as tie
 
 abbrev Inv-loop : tie.InvT-loop
-Inv-loop count jumped fallen route₀ b₀ route b = Written count jumped fallen route₀ route b
+Inv-loop count jumped fallen route₀ b₀ route b =
+    Adds route₀ 0 route b (bytesBelow count jumped fallen b)
+    × ((b ≤ count) × (length route ≡ length route₀))
 
 abbrev μ-loop : tie.MeasureT-loop
 μ-loop count jumped fallen route₀ b₀ route b = count - b
 
 loop-holds : tie.Need-loop-holds Inv-loop μ-loop
-loop-holds c = written-none (c .before .args .count) (c .before .args .jumped) (c .before .args .fallen)
-    (c .before .args .route .now)
+loop-holds c = (nothing _ _, (omega arith, refl))
 
 loop-again : tie.Need-loop-again Inv-loop μ-loop
 loop-again c =
-    let turn = c .before in
-    let at = turn .before in
+    let at = c .before .before in
     let start = at .before .before in
-    written-more (start .args .count) (start .args .jumped) (start .args .fallen) (start .args .route .now)
-    (at .loop .route) (at .loop .b) (c .byte-of .result) (start .pre) (turn .loop-test .taken) (c .byte-of .ensures)
-    (at .loop .inv)
+    let more =
+    written-more (start .args .count) (start .args .jumped) (start .args .fallen) _ _ (at .loop .b) _
+    (c .byte-of .ensures) (at .loop .inv .0) in
+    (more, (omega arith, as-long more))
 
 same-length : tie.Need-same-length Inv-loop μ-loop
-same-length c = c .before .loop .inv .size
+same-length c = c .before .loop .inv .1 .1
 
 returns : tie.Need-returns Inv-loop μ-loop
 returns c =
     let at = c .before in
     let start = at .before .before in (
       refl,
-      written-all (start .args .count) (start .args .jumped) (start .args .fallen) (start .args .route .now)
-          (at .loop .route) (at .loop .b) (c .loop-test .left) (at .loop .inv),
+      written-all (start .args .count) (start .args .jumped) (start .args .fallen) _ _ (at .loop .b) (omega arith)
+          (start .pre) (at .loop .inv .0),
     )
 
 pub write-route-spec : {M : Type 1} → statement M
