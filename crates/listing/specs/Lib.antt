@@ -1,7 +1,7 @@
--- The definitions that the contracts of the conflict list cite, and what they leave.
+-- The conflict list. Trusted: Answer. What a body's list answers in so much room (Room), from there to any form
+-- (Answered), that the promise leaves one answer (Uniqueness), and which refusals there are (Refusals).
 pub mod Answer
-pub mod Laying
-pub mod Listing
+pub mod Room
 pub mod Answered
 pub mod Uniqueness
 pub mod Refusals

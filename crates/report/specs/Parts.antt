@@ -16,7 +16,7 @@ use Rattle.form.specs.Conflict.{conflicts, conflictBytes}
 use Rattle.listing.specs.declared.Listed.{Listed}
 use Rattle.listing.specs.declared.Listed.the-variants.{Bytes, Refused as Unlisted}
 use Rattle.listing.specs.Answer.{listing, asJudged}
-use Rattle.listing.specs.Listing.{bytes-length}
+use Rattle.list_bytes.specs.Listing.{bytes-length}
 use Rattle.sweep_steps.specs.declared.SweepAnswer.{SweepAnswer}
 use Rattle.sweep_steps.specs.declared.SweepAnswer.the-variants.{Routed, Refused as Unswept}
 use Rattle.walk.specs.declared.WalkAnswer.{WalkAnswer}

@@ -7,7 +7,8 @@ use lib.ListN.{length}
 use Rattle.lent.specs.Adding.{told, from-start}
 use Rattle.sets.specs.Worded.{worded}
 use Rattle.path_sets.specs.Finding.{found-told}
-use Rattle.listing.specs.Listing.{found-rows, number-is, bytes-are, too-few, enough, has-room}
+use Rattle.list_bytes.specs.Listing.{found-rows, number-is, bytes-are}
+use Rattle.listing.specs.Room.{too-few, enough, has-room}
 use borrow.Author.Needs.{needs}
 use Rattle.listing.proofs.list_of.Statement.{statement}
 use Rattle.listing.proofs.list_of.Tie as tie

@@ -1,12 +1,12 @@
--- `listing::entry` meets its contract.
+-- `list_bytes::entry` meets its contract.
 use native.Mathlib.Omega.{arith}
 use lib.ListN.{length-set}
 use Rattle.lent.specs.Adding.{nothing}
-use Rattle.listing.specs.Laying.{five}
+use Rattle.list_bytes.specs.Laying.{five}
 use borrow.Author.Tests.{not-true, not-false}
 use borrow.Author.Needs.{needs}
-use Rattle.listing.proofs.entry.Statement.{statement}
-use Rattle.listing.proofs.entry.Tie as tie
+use Rattle.list_bytes.proofs.entry.Statement.{statement}
+use Rattle.list_bytes.proofs.entry.Tie as tie
 
 returns : tie.Need-returns
 returns c = let off = not-true (c .before .args .on) (c .if1 .taken) in rw off (nothing _ _)

@@ -1,5 +1,5 @@
 -- The list's bytes and its number of entries from the firsts of the edges: the bytes that the loops lay out are those
--- of the conflict list. Rests on Laying, Parts and lower_laws' Joined.
+-- of the conflict list. Rests on Laying, path_sets' Parts and lower_laws' Joined.
 use mathlib.Core.Path.{_≡_, refl, sym, ap, ap₂, _∙_}
 use mathlib.Core.Bool.{Bool, true, false, cond}
 use mathlib.Core.List.{List, [], _∷_, _++_, append-nil}
@@ -17,14 +17,11 @@ use Rattle.form.specs.Conflict.{Edge, Pair, block, condition, assigned, assignm
 use Rattle.form.specs.Conflict.{conflictBytes}
 use Rattle.lower_laws.specs.Joined.{byWay, edgePairs, past-count, denies-none, no-test, opposes-first, assigned-none}
 use Rattle.lower_laws.specs.Joined.{way-none, conflicts-by-edge}
-use borrow.Author.Tests.{lt-ltb, le-ltb}
-use Rattle.listing.specs.declared.Listed.the-variants.{Bytes, Refused}
-use Rattle.listing.specs.Answer.{listedIn}
 use Rattle.sets.specs.declared.Firsts.{Firsts}
 use Rattle.sets.specs.declared.Found.{Found}
 use Rattle.path_sets.specs.Parts.{FirstsBy, FoundBy}
 use Rattle.lent.specs.Adding.{Adds}
-use Rattle.listing.specs.Laying.{entryBytes, wordBytes, edgeBytes, one-more, room-more}
+use Rattle.list_bytes.specs.Laying.{entryBytes, wordBytes, edgeBytes, one-more, room-more}
 
 abbrev pairBytes : Pair → List ℕ
 pairBytes p = p .kind ∷ p .first ∷ p .third ∷ p .second ∷ p .outcome ∷ []
@@ -219,19 +216,3 @@ module _ {before out : List ℕ} {at : ℕ} (variable a1 j1 f1 a2 j2 f2 : List �
   pub all-done : s ≡ 64 → Adds before 0 out at (allBytes variable a1 j1 f1 a2 j2 f2)
   unfolding allBytes
   all-done e = rw e at l
-
--- ---- the answer for a body
-module _ (body : Body) (n room : ℕ) (is : n ≡ length (conflicts body)) where
-  needed : 5 * n ≡ length (conflictBytes body)
-  needed = omega (arith, bytes-length body)
-
-  pub too-few : room < 5 * n → Refused 42 (5 * n) ≡ listedIn body room
-  too-few h = let k : room < length (conflictBytes body) = omega (arith, needed) in rw
-      (lt-ltb room (length (conflictBytes body)) k) (ap (Refused 42) needed)
-
-  pub enough : (end : ℕ) → 5 * n ≤ room → end ≡ 0 + length (conflictBytes body) → Bytes end ≡ listedIn body room
-  enough end h e = let k : length (conflictBytes body) ≤ room = omega (arith, needed) in rw
-      (le-ltb room (length (conflictBytes body)) k) (ap Bytes (omega arith))
-
-  pub has-room : 5 * n ≤ room → length (conflictBytes body) ≤ room
-  has-room h = omega (arith, needed)

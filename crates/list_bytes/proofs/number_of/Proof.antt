@@ -1,4 +1,4 @@
--- `listing::number_of` meets its contract. The loop's invariant: n is the sum of the rows below s. The measure is
+-- `list_bytes::number_of` meets its contract. The loop's invariant: n is the sum of the rows below s. The measure is
 -- what is left of the 64.
 use mathlib.Core.Path.{_≡_, sym, ap, _∙_}
 use Prim.Native.Nat.{ℕ, _+_, _*_, _-_, _≤_}
@@ -7,8 +7,8 @@ use lib.Count.{ones}
 use lib.ListN.{getD}
 use Rattle.laws.specs.Sums.{sum, sum-none, sum-last}
 use borrow.Author.Needs.{needs}
-use Rattle.listing.proofs.number_of.Statement.{statement}
-use Rattle.listing.proofs.number_of.Tie as tie
+use Rattle.list_bytes.proofs.number_of.Statement.{statement}
+use Rattle.list_bytes.proofs.number_of.Tie as tie
 
 abbrev Inv-loop : tie.InvT-loop
 Inv-loop a j f n₀ s₀ n s =

@@ -1,9 +1,9 @@
--- `listing::edge_entries` meets its contract.
+-- `list_bytes::edge_entries` meets its contract.
 use native.Mathlib.Omega.{arith}
-use Rattle.listing.specs.Laying.{edge-length, edge-done}
+use Rattle.list_bytes.specs.Laying.{edge-length, edge-done}
 use borrow.Author.Needs.{needs}
-use Rattle.listing.proofs.edge_entries.Statement.{statement}
-use Rattle.listing.proofs.edge_entries.Tie as tie
+use Rattle.list_bytes.proofs.edge_entries.Statement.{statement}
+use Rattle.list_bytes.proofs.edge_entries.Tie as tie
 
 entries-requires : tie.Need-entries-requires
 entries-requires c κs =

@@ -1,12 +1,12 @@
--- `listing::all_entries` meets its contract. The loop's invariant: the entries of the blocks below s stand from the
+-- `list_bytes::all_entries` meets its contract. The loop's invariant: the entries of the blocks below s stand from the
 -- first byte on. The measure is what is left of the 64.
 use Prim.Native.Nat.{_-_, _≤_}
 use native.Mathlib.Omega.{arith}
 use Rattle.laws.specs.Terms.{each, range}
 use Rattle.lent.specs.Adding.{Adds, nothing, as-long}
-use Rattle.listing.specs.Listing.{blockBytes, all-room, all-next, all-done}
-use Rattle.listing.proofs.all_entries.Statement.{statement}
-use Rattle.listing.proofs.all_entries.Tie as tie
+use Rattle.list_bytes.specs.Listing.{blockBytes, all-room, all-next, all-done}
+use Rattle.list_bytes.proofs.all_entries.Statement.{statement}
+use Rattle.list_bytes.proofs.all_entries.Tie as tie
 
 abbrev Inv-loop : tie.InvT-loop
 Inv-loop out₀ variable a1 j1 f1 a2 j2 f2 at₀ s₀ out at s = (s ≤ 64)

@@ -1,9 +1,9 @@
--- `listing::ones` meets its contract.
+-- `list_bytes::ones` meets its contract.
 use mathlib.Core.Path.{refl}
 use native.Mathlib.Omega.{arith}
 use lib.Count.{ones-le}
-use Rattle.listing.proofs.ones.Statement.{statement}
-use Rattle.listing.proofs.ones.Tie as tie
+use Rattle.list_bytes.proofs.ones.Statement.{statement}
+use Rattle.list_bytes.proofs.ones.Tie as tie
 
 cast-result : tie.Need-cast-result
 cast-result c = omega (arith, ones-le 64 (c .args .x) (c .fits .x .fits))

@@ -1,13 +1,13 @@
--- `listing::entries` meets its contract. The loop's invariant: the entries of the blocks below f stand from `start`
+-- `list_bytes::entries` meets its contract. The loop's invariant: the entries of the blocks below f stand from `start`
 -- on. The measure is what is left of the 64.
 use Prim.Native.Nat.{_-_, _≤_}
 use native.Mathlib.Omega.{arith}
 use Rattle.laws.specs.Terms.{each, range}
 use Rattle.lent.specs.Adding.{Adds, nothing, as-long}
-use Rattle.listing.specs.Laying.{turnBytes, turn-room, turn-next, word-done}
+use Rattle.list_bytes.specs.Laying.{turnBytes, turn-room, turn-next, word-done}
 use borrow.Author.Needs.{needs}
-use Rattle.listing.proofs.entries.Statement.{statement}
-use Rattle.listing.proofs.entries.Tie as tie
+use Rattle.list_bytes.proofs.entries.Statement.{statement}
+use Rattle.list_bytes.proofs.entries.Tie as tie
 
 abbrev Inv-loop : tie.InvT-loop
 Inv-loop out₀ start kind word third other another second outcome at₀ f₀ out at f =
