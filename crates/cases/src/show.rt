@@ -93,6 +93,12 @@ pub(crate) fn list(form: &[u8]) {
     }
 }
 
+fn numbers(iterations: u64, weight: u64, bound: u64) {
+    value(b" iterations ", iterations);
+    value(b", weight ", weight);
+    value(b", bound ", bound);
+}
+
 pub(crate) fn sweep(form: &[u8]) {
     say(b"  sweep:");
     let mut bytes = [0u8; 64];
@@ -103,9 +109,7 @@ pub(crate) fn sweep(form: &[u8]) {
             bound,
             kept,
         } => {
-            value(b" iterations ", iterations);
-            value(b", weight ", weight);
-            value(b", bound ", bound);
+            numbers(iterations, weight, bound);
             value(b", kept ", kept);
             route(bytes);
         }
@@ -124,9 +128,7 @@ pub(crate) fn walk(form: &[u8], budget: u32) {
             bound,
             walked,
         } => {
-            value(b" iterations ", iterations);
-            value(b", weight ", weight);
-            value(b", bound ", bound);
+            numbers(iterations, weight, bound);
             value(b", walked ", walked);
             route(bytes);
         }
@@ -159,18 +161,23 @@ pub(crate) fn written(name: &[u8], body: form::Body) {
     form(body, &mut out);
 }
 
-// A case of the writer, lent 172 bytes.
-pub(crate) fn written_short(name: &[u8], body: form::Body) {
-    say(name);
-    say(b"  form:");
-    let mut out = [0u8; 172];
-    match writer::write(body, &mut out) {
+// What the writer answers.
+fn answered(written: Written) {
+    match written {
         Written::Bytes(n) => {
             value(b" ", n as u64);
             say(b" bytes\n");
         }
         Written::Refused { number, place } => refusal(number, place),
     }
+}
+
+// A case of the writer, lent 172 bytes.
+pub(crate) fn written_short(name: &[u8], body: form::Body) {
+    say(name);
+    say(b"  form:");
+    let mut out = [0u8; 172];
+    answered(writer::write(body, &mut out));
 }
 
 // A case: what is said of it, its form, list, sweep and walk.
