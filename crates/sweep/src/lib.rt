@@ -1,21 +1,20 @@
 // The sweep: over the plan of a body, from the last block down, row by row, into a lent table of entries, which is its
-// memory: row b stands from entry 64 b on. `fetch`, `store`, `sweep_block`, `sweep_rows`, `sweep` and `sweep_own` have a
-// slice of structs and are proved by a walk of their code by hand; they have no branch. All else works on local rows of
-// numbers, and is covered. What is owed is in specs/Answer.antt.
+// memory: row b stands from entry 64 b on. `fetch`, `store`, `sweep_rows`, `sweep` and `sweep_own` have a slice of structs
+// and are proved by a walk of their code by hand; they have no branch. `sweep_rows` holds three rows of numbers for all
+// blocks: two that are fetched into, one that is made. All else works on such rows, lent, and is covered. What is owed is
+// in specs/Answer.antt.
 ghost use mathlib.Core.Path.{_≡_};
-ghost use Prim.Native.Nat.{ℕ, suc, max, min, _+_, _*_, _-_, _^_, _<_, _≤_};
+ghost use Prim.Native.Nat.{ℕ, max, min, _+_, _*_, _-_, _^_, _<_, _≤_};
 ghost use lib.ListN.{length, getD};
 ghost use Rattle.form.specs.declared.Body.{Body};
 ghost use Rattle.form.specs.Conflict.{Sound};
 ghost use Rattle.theory.specs.Plan.{Planned, PlanOf, costLimit};
-ghost use Rattle.plan.specs.Prepared.{PreparedOf};
-ghost use Rattle.rows.specs.Entries.{entryPut};
-ghost use Rattle.rows.specs.Structs.{tupleOf, structAt};
+ghost use Rattle.rows.specs.Structs.{structAt};
 ghost use Rattle.rows.specs.Rows.{Ready, tailsBy, leftFrom};
-ghost use Rattle.rows.specs.Begun.{begunWith};
+ghost use Rattle.rows.specs.Begun.{begunWith, zeroRow};
 ghost use Rattle.sweep.specs.Answer.{noEntry, outcomeOf, SweepOwed, OwnTableOwed};
 ghost use Rattle.sweep.specs.Table.{fetched, stored};
-ghost use Rattle.sweep.specs.Turn.{firstOf, sourcesOf, tailsIn, wholeOf, BuiltAs, TurnReady, turnedBy};
+ghost use Rattle.sweep.specs.Turn.{firstOf, sourcesOf, tailsIn, wholeOf, BuiltAs};
 ghost use Rattle.sweep.specs.Drive.{noLengths, SweptAs};
 ghost use Rattle.sweep.specs.Driven.{started, following, finished};
 ghost use Rattle.sweep.specs.Ends.{allowedOf, WeightFew, answerOf, concluded};
@@ -25,22 +24,6 @@ use plan_words::Way;
 use rows::Entry;
 use rows::Tails;
 
-// An entry into a row's words, as its entry p.
-fn put_words(row: &mut [u64], p: usize, e: Entry) -> usize
-    requires { ⌜ 5 * suc p ≤ length (now row) ⌝ }
-    ensures { λ r. ⌜ now (row .exit) ≡ entryPut (now (row .entry)) p (tupleOf e) ⌝ }
-{
-    rows::put_entry(row, p, e)
-}
-
-// Entry k of a row's words.
-fn entry_of(words: &[u64], k: usize) -> Entry
-    requires { ⌜ 5 * suc k ≤ length (now words) ⌝ }
-    ensures { λ r. ⌜ r ≡ structAt (now (words .entry)) k ⌝ }
-{
-    rows::entry_at(words, k)
-}
-
 // The table's entries, `entries` of them from entry `from` on, into a row; the table stays as it is. How many.
 fn fetch(table: &mut [Entry], from: usize, entries: usize, row: &mut [u64]) -> usize
     requires { ⌜ ((entries ≤ 64) × (length (now row) ≡ 320)) × ((k : ℕ) → k < entries → from + k < length (now table)) ⌝ }
@@ -49,21 +32,21 @@ fn fetch(table: &mut [Entry], from: usize, entries: usize, row: &mut [u64]) -> u
     let mut k = 0;
     while k < entries {
         let i = from + k;
-        put_words(row, k, table[i]);
+        rows::put_entry(row, k, table[i]);
         k += 1;
     }
     k
 }
 
 // The first entries of a row's words into the table, `entries` of them, from entry `from` on; how many.
-fn store(table: &mut [Entry], from: usize, words: [u64; 320], entries: usize) -> usize
-    requires { ⌜ (entries ≤ 64) × (from + entries ≤ length (now table)) ⌝ }
-    ensures { λ r. ⌜ now (table .exit) ≡ stored (now (table .entry)) from words entries ⌝ }
+fn store(table: &mut [Entry], from: usize, words: &[u64], entries: usize) -> usize
+    requires { ⌜ ((entries ≤ 64) × (length (now words) ≡ 320)) × (from + entries ≤ length (now table)) ⌝ }
+    ensures { λ r. ⌜ now (table .exit) ≡ stored (now (table .entry)) from (now (words .entry)) entries ⌝ }
 {
     let mut k = 0;
     while k < entries {
         let i = from + k;
-        table[i] = entry_of(&words, k);
+        table[i] = rows::entry_at(words, k);
         k += 1;
     }
     k
@@ -87,12 +70,11 @@ struct Sources {
     falls: usize,
 }
 
-// A row that is made: how many entries it has, or 65 where it is crowded; where it goes and how many entries of it; its words.
+// A row that is made: how many entries it has, or 65 where it is crowded; where it goes and how many entries of it.
 struct Built {
     held: usize,
     from: usize,
     entries: usize,
-    words: [u64; 320],
 }
 
 // How many entries row t has; a row that there is none of has none.
@@ -137,40 +119,43 @@ fn whole_of(held: usize) -> usize
     if held < 65 { 64 } else { 0 }
 }
 
-// The row of a block, from the rows of its targets.
-fn make(plan: &[u64], count: usize, s: Sources, first: &[u64], second: &[u64]) -> Built
-    requires { ⌜ Ready (now plan) (s .b) (tailsIn s) (now first) (now second) ⌝ }
-    ensures { λ r. ⌜ BuiltAs (leftFrom (now (plan .entry)) (s .b) (tailsBy (tailsIn s) (now (first .entry)) (now (second .entry))) 1 (begunWith (now (plan .entry)) count (s .b))) (s .b) r ⌝ }
+// The words of a row, all zero.
+fn clear(row: &mut [u64])
+    requires { ⌜ length (now row) ≡ 320 ⌝ }
+    ensures { λ r. ⌜ now (row .exit) ≡ zeroRow ⌝ }
+{
+    let mut k = 0;
+    while k < 320 {
+        row[k] = 0;
+        k += 1;
+    }
+}
+
+// The row of a block, from the rows of its targets, in the place of whatever was made before.
+fn make(
+    plan: &[u64],
+    count: usize,
+    s: Sources,
+    first: &[u64],
+    second: &[u64],
+    made: &mut [u64],
+) -> Built
+    requires { ⌜ Ready (now plan) (s .b) (tailsIn s) (now first) (now second) × (length (now made) ≡ 320) ⌝ }
+    ensures { λ r. ⌜ BuiltAs (leftFrom (now (plan .entry)) (s .b) (tailsBy (tailsIn s) (now (first .entry)) (now (second .entry))) 1 (begunWith (now (plan .entry)) count (s .b))) (s .b) (now (made .exit)) r ⌝ }
 {
     let b = s.b;
     let tails = Tails {
         jumps: s.jumps,
         falls: s.falls,
     };
-    let mut words = [0; 320];
-    let begun = rows::begin(plan, b, count, &mut words);
-    let held = rows::build(plan, b, tails, first, second, &mut words, begun);
+    clear(made);
+    let begun = rows::begin(plan, b, count, made);
+    let held = rows::build(plan, b, tails, first, second, made, begun);
     Built {
         held,
         from: 64 * b,
         entries: whole_of(held),
-        words,
     }
-}
-
-// The row of the next block: made beside the table from the rows of its targets, and stored when it is whole. How many entries it has, or 65.
-fn sweep_block(plan: &[u64], count: usize, at: Drive, table: &mut [Entry]) -> usize
-    requires { ⌜ TurnReady (now plan) (now table) at ⌝ }
-    ensures { λ r. ⌜ turnedBy (now (plan .entry)) count at (now (table .entry)) (now (table .exit)) r ⌝ }
-{
-    let s = sources_of(plan, at);
-    let mut first = [0; 320];
-    fetch(table, s.jump, s.jumps, &mut first);
-    let mut second = [0; 320];
-    fetch(table, s.fall, s.falls, &mut second);
-    let built = make(plan, count, s, &first, &second);
-    store(table, built.from, built.words, built.entries);
-    built.held
 }
 
 // No row is complete.
@@ -251,10 +236,17 @@ fn sweep_rows(plan: &[u64], count: usize, table: &mut [Entry]) -> Swept
     requires { ⌜ (0 < count → PlanOf (now plan) count) × (64 * count ≤ length (now table)) ⌝ }
     ensures { λ r. ⌜ ((body : Body) (cost : ℕ → ℕ → ℕ) → Planned body cost (now (plan .entry)) → Sound body → body .count ≡ count → SweptAs body cost (now (table .entry)) (now (table .exit)) r) × (count ≡ 0 → now (table .exit) ≡ now (table .entry)) ⌝ }
 {
+    let mut first = [0; 320];
+    let mut second = [0; 320];
+    let mut made = [0; 320];
     let mut at = start(plan, count);
     while at.going {
-        let length = sweep_block(plan, count, at, table);
-        at = following_of(at, length);
+        let s = sources_of(plan, at);
+        fetch(table, s.jump, s.jumps, &mut first);
+        fetch(table, s.fall, s.falls, &mut second);
+        let built = make(plan, count, s, &first, &second, &mut made);
+        store(table, built.from, &made, built.entries);
+        at = following_of(at, built.held);
     }
     finish(at)
 }
@@ -355,19 +347,12 @@ fn conclude(
     }
 }
 
-// What the sweep starts from.
-fn prepare(form: &[u8]) -> Prepared
-    ensures { λ r. ⌜ PreparedOf (now (form .entry)) r ⌝ }
-{
-    plan::prepare(form)
-}
-
 // The sweep, for any bytes: the loop count, the first heaviest conflict-free route with its bytes, count times weight, and the longest row, with all rows in the
 // table; or a refusal.
 pub fn sweep(form: &[u8], table: &mut [Entry], route: &mut [u8]) -> SweepAnswer
     ensures { λ r. ⌜ SweepOwed (now (form .entry)) (now (route .entry)) (now (table .entry)) (outcomeOf r (now (route .exit)) (now (table .exit))) ⌝ }
 {
-    let ready = prepare(form);
+    let ready = plan::prepare(form);
     let plan = ready.plan;
     let blocks = allowed(ready.count, table.len(), route.len());
     let swept = sweep_rows(&plan, blocks, table);
