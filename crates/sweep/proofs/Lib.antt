@@ -1,3 +1,8 @@
--- What the proofs by hand share: a local array that is lent (Lent), a slice that is lent again (Again).
+-- What the proofs by hand share: a function's locals all at once (Locals), a local array that is lent (Lent), a slice
+-- that is lent again (Again).
+pub mod Locals
 pub mod Lent
 pub mod Again
+pub mod Fetching
+pub mod Storing
+pub mod Making

@@ -1,6 +1,6 @@
 // The sweep: over the plan of a body, from the last block down, row by row, into a lent table of entries, which is its
-// memory: row b stands from entry 64 b on. Every function here has a slice of structs and is proved by a walk of its code
-// by hand; none has a branch. The steps, on local rows of numbers, and what is owed are in crate sweep_steps.
+// memory: row b stands from entry 64 b on. Every function here has a slice of structs and is proved by a walk of its
+// code by hand; none has a branch. The steps, on local rows of numbers, and what is owed are in crate sweep_steps.
 ghost use mathlib.Core.Path.{_≡_};
 ghost use Prim.Native.Nat.{ℕ, _+_, _*_, _<_, _≤_};
 ghost use lib.ListN.{length};
@@ -9,10 +9,8 @@ ghost use Rattle.form.specs.Conflict.{Sound};
 ghost use Rattle.theory.specs.Plan.{Planned, PlanOf};
 ghost use Rattle.sweep_steps.specs.Answer.{outcomeOf, SweepOwed, OwnTableOwed};
 ghost use Rattle.sweep_steps.specs.Table.{fetched, stored};
-ghost use Rattle.sweep_steps.specs.Turn.{TurnReady, turnedBy};
 ghost use Rattle.sweep_steps.specs.Drive.{SweptAs};
 use entries::Entry;
-use sweep_steps::Drive;
 use sweep_steps::SweepAnswer;
 use sweep_steps::Swept;
 
@@ -24,39 +22,24 @@ fn fetch(table: &mut [Entry], from: usize, entries: usize, row: &mut [u64]) -> u
     let mut k = 0;
     while k < entries {
         let i = from + k;
-        sweep_steps::put_words(row, k, table[i]);
+        entries::put_entry(row, k, table[i]);
         k += 1;
     }
     k
 }
 
 // The first entries of a row's words into the table, `entries` of them, from entry `from` on; how many.
-fn store(table: &mut [Entry], from: usize, words: [u64; 320], entries: usize) -> usize
-    requires { ⌜ (entries ≤ 64) × (from + entries ≤ length (now table)) ⌝ }
-    ensures { λ r. ⌜ now (table .exit) ≡ stored (now (table .entry)) from words entries ⌝ }
+fn store(table: &mut [Entry], from: usize, words: &[u64], entries: usize) -> usize
+    requires { ⌜ ((entries ≤ 64) × (length (now words) ≡ 320)) × (from + entries ≤ length (now table)) ⌝ }
+    ensures { λ r. ⌜ now (table .exit) ≡ stored (now (table .entry)) from (now (words .entry)) entries ⌝ }
 {
     let mut k = 0;
     while k < entries {
         let i = from + k;
-        table[i] = sweep_steps::entry_of(&words, k);
+        table[i] = entries::entry_at(words, k);
         k += 1;
     }
     k
-}
-
-// The row of the next block: made beside the table from the rows of its targets, and stored when it is whole. How many entries it has, or 65.
-fn sweep_block(plan: &[u64], count: usize, at: Drive, table: &mut [Entry]) -> usize
-    requires { ⌜ TurnReady (now plan) (now table) at ⌝ }
-    ensures { λ r. ⌜ turnedBy (now (plan .entry)) count at (now (table .entry)) (now (table .exit)) r ⌝ }
-{
-    let s = sweep_steps::sources_of(plan, at);
-    let mut first = [0; 320];
-    fetch(table, s.jump, s.jumps, &mut first);
-    let mut second = [0; 320];
-    fetch(table, s.fall, s.falls, &mut second);
-    let built = sweep_steps::make(plan, count, s, &first, &second);
-    store(table, built.from, built.words, built.entries);
-    built.held
 }
 
 // All rows, from the last block down, until one is crowded. With no block nothing is done.
@@ -64,20 +47,27 @@ fn sweep_rows(plan: &[u64], count: usize, table: &mut [Entry]) -> Swept
     requires { ⌜ (0 < count → PlanOf (now plan) count) × (64 * count ≤ length (now table)) ⌝ }
     ensures { λ r. ⌜ ((body : Body) (cost : ℕ → ℕ → ℕ) → Planned body cost (now (plan .entry)) → Sound body → body .count ≡ count → SweptAs body cost (now (table .entry)) (now (table .exit)) r) × (count ≡ 0 → now (table .exit) ≡ now (table .entry)) ⌝ }
 {
+    let mut first = [0; 320];
+    let mut second = [0; 320];
+    let mut made = [0; 320];
     let mut at = sweep_steps::start(plan, count);
     while at.going {
-        let length = sweep_block(plan, count, at, table);
-        at = sweep_steps::following_of(at, length);
+        let s = sweep_steps::sources_of(plan, at);
+        fetch(table, s.jump, s.jumps, &mut first);
+        fetch(table, s.fall, s.falls, &mut second);
+        let built = sweep_steps::make(plan, count, s, &first, &second, &mut made);
+        store(table, built.from, &made, built.entries);
+        at = sweep_steps::following_of(at, built.held);
     }
     sweep_steps::finish(at)
 }
 
-// The sweep, for any bytes: the loop count, the first heaviest conflict-free route with its bytes, count times weight, and the longest row, with all rows in the
-// table; or a refusal.
+// The sweep, for any bytes: the loop count, the first heaviest conflict-free route with its bytes, count times weight,
+// and the longest row, with all rows in the table; or a refusal.
 pub fn sweep(form: &[u8], table: &mut [Entry], route: &mut [u8]) -> SweepAnswer
     ensures { λ r. ⌜ SweepOwed (now (form .entry)) (now (route .entry)) (now (table .entry)) (outcomeOf r (now (route .exit)) (now (table .exit))) ⌝ }
 {
-    let ready = sweep_steps::prepare(form);
+    let ready = plan::prepare(form);
     let plan = ready.plan;
     let blocks = sweep_steps::allowed(ready.count, table.len(), route.len());
     let swept = sweep_rows(&plan, blocks, table);

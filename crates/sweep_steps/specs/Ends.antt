@@ -31,7 +31,7 @@ use Rattle.plan.specs.RouteWords.{bytesOf}
 use Rattle.entries.specs.declared.Entry.{Entry}
 use Rattle.entries.specs.Entries.{entryAt}
 use Rattle.entries.specs.Structs.{tupleOf, structAt, structOf}
-use Rattle.rows.specs.Begun.{zeroRow, zero-at}
+use Rattle.rows.specs.Begun.{zeroRow, zero-at, zero-length}
 use Rattle.sweep_steps.specs.declared.Swept.{Swept}
 use Rattle.sweep_steps.specs.declared.Swept.the-variants.{Crowded, Rows}
 use Rattle.sweep_steps.specs.declared.SweepAnswer.{SweepAnswer}
@@ -297,7 +297,7 @@ module _ (form : List ℕ) (ready : Prepared) (is : PreparedOf form ready) (lent
 
       -- row 0's entry, where there is one
       entry : 0 < b → entryAt first 0 ≡ tupleOf (getD table 0 noEntry)
-      entry h = ap (λ l. entryAt l 0) first-is ∙ row-fetched-at table 0 (min b 1) (omega arith) 0 (omega arith) ∙ ap
+      entry h = ap (λ l. entryAt l 0) first-is ∙ row-fetched-at zeroRow zero-length table 0 (min b 1) (omega arith) 0 (omega arith) ∙ ap
           (λ i. tupleOf (getD table i noEntry)) (zero-add 0)
 
       -- what `conclude` asks

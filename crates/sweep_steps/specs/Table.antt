@@ -20,7 +20,7 @@ use Rattle.theory.specs.SweepWords.{Words}
 use Rattle.entries.specs.declared.Entry.{Entry}
 use Rattle.entries.specs.Entries.{entryAt, entriesFrom, entryPut, put-length, put-at, put-below, entry-alike, entries-append, entries-length}
 use Rattle.entries.specs.Structs.{tupleOf, structOf, structAt}
-use Rattle.rows.specs.Begun.{zeroRow, zero-length}
+use Rattle.rows.specs.Begun.{zeroRow}
 use Rattle.sweep_steps.specs.Answer.{entryFrom, noEntry, tableWith}
 
 -- ---- entries of the table
@@ -114,14 +114,15 @@ module _ (row : List ℕ) (table : List Entry) (from : ℕ) where
 abbrev pub rowFetched : (table : List Entry) → (from n : ℕ) → List ℕ
 rowFetched table from n = fetched zeroRow table from n
 
-module _ (table : List Entry) (from : ℕ) where
-  pub row-fetched-at : (n : ℕ) → n ≤ 64 → (j : ℕ) → j < n → entryAt (rowFetched table from n) j ≡ tupleOf
+-- whatever stood in the row before
+module _ (row : List ℕ) (size : length row ≡ 320) (table : List Entry) (from : ℕ) where
+  pub row-fetched-at : (n : ℕ) → n ≤ 64 → (j : ℕ) → j < n → entryAt (fetched row table from n) j ≡ tupleOf
       (getD table (from + j) noEntry)
-  row-fetched-at n few = fetched-at zeroRow table from n (omega (arith, zero-length))
+  row-fetched-at n few = fetched-at row table from n (omega (arith, size))
 
-  pub fetched-entries : (n : ℕ) → n ≤ 64 → entriesFrom (rowFetched table from n) 0 n ≡ entriesIn table from n
-  fetched-entries n few = in-words (rowFetched table from n) table n 0 from
-      (λ k h. ap (entryAt (rowFetched table from n)) (zero-add k) ∙ row-fetched-at n few k h)
+  pub fetched-entries : (n : ℕ) → n ≤ 64 → entriesFrom (fetched row table from n) 0 n ≡ entriesIn table from n
+  fetched-entries n few = in-words (fetched row table from n) table n 0 from
+      (λ k h. ap (entryAt (fetched row table from n)) (zero-add k) ∙ row-fetched-at n few k h)
 
 -- ---- what is stored
 

@@ -8,10 +8,10 @@ use mathlib.Core.List.{List, [], _∷_, _++_, map, append-nil}
 use mathlib.Core.Option.{Option}
 use Prim.Native.Nat.{ℕ, zero, suc, _+_, _*_, _-_, _^_, _≤_, _<_}
 use native.Mathlib.Omega.{arith}
-use borrow.Author.Tests.{lt-ltb, le-ltb, ltb-true, ltb-false}
+use borrow.Author.Tests.{lt-ltb, le-ltb, ltb-true, ltb-false, eqb-true, eqb-false}
 use lib.Dec.{eqb, ltb}
-use lib.ListN.{length, getD, List·getD-eq-default}
-use lib.Seq.{paste}
+use lib.ListN.{length, getD, set, replicate, List·getD-eq-default}
+use lib.Seq.{paste, getD-set-same, getD-set-other}
 use Rattle.laws.specs.Terms.{Mem, heavier}
 use Rattle.laws.specs.Tests.{split}
 use Rattle.laws.specs.Orders.{heaviest}
@@ -32,12 +32,12 @@ use Rattle.rows.specs.declared.Tails.{Tails}
 use Rattle.entries.specs.Entries.{entryAt, entriesFrom, betterOf, Grown, entries-length}
 use Rattle.rows.specs.Steps.{sideOf, stepKey, stepWords, step-key, step-words}
 use Rattle.rows.specs.Rows.{tailsBy, pouredBy, leftFrom, left-grows, Ready}
-use Rattle.rows.specs.Begun.{Holds, begunWith, zeroRow, zero-length}
+use Rattle.rows.specs.Begun.{Holds, begunWith}
 use Rattle.sweep_steps.specs.declared.Drive.{Drive}
 use Rattle.sweep_steps.specs.declared.Sources.{Sources}
 use Rattle.sweep_steps.specs.declared.Built.{Built}
 use Rattle.sweep_steps.specs.Answer.{noEntry}
-use Rattle.sweep_steps.specs.Table.{entriesIn, rowFetched, row-fetched-at, fetched-length, fetched-entries, stored, stored-is, structsOf}
+use Rattle.sweep_steps.specs.Table.{entriesIn, fetched, row-fetched-at, fetched-length, fetched-entries, stored, stored-is, structsOf}
 
 -- ---- pouring by steps that agree on the entries
 
@@ -147,6 +147,22 @@ module _ (body : Body) (g : Sound body) (cost : ℕ → ℕ → ℕ) (range : Ra
         (planned .costs b 0 inside)
         ∙ sweep-turn body g cost heavier heaviest rows b inside above
 
+-- ---- words that are cleared
+
+-- one more is zero, and those before it are
+pub zeros-more : (l : List ℕ) (k : ℕ) → k < length l → ((j : ℕ) → j < k → getD l j 0 ≡ 0) → (j : ℕ) → j < suc k → getD
+    (set l k 0) j 0 ≡ 0
+zeros-more l k inside zeros j h = split (eqb j k)
+    (λ q. let e = eqb-true j k q in ap (λ i. getD (set l k 0) i 0) e ∙ getD-set-same l k 0 0 inside)
+    (λ q. getD-set-other l k j 0 0 (eqb-false j k q) ∙ zeros j (omega (arith, eqb-false j k q)))
+
+pub zeros-all : (l : List ℕ) (n : ℕ) → length l ≡ n → ((j : ℕ) → j < n → getD l j 0 ≡ 0) → l ≡ replicate n 0
+zeros-all l n size zeros = subst (λ (m : ℕ). l ≡ replicate m 0) size (all l (λ j h. zeros j (omega (arith, size))))
+  where
+    all : (l : List ℕ) → ((j : ℕ) → j < length l → getD l j 0 ≡ 0) → l ≡ replicate (length l) 0
+    all [] zeros = refl
+    all (x ∷ l) zeros = λ i. zeros 0 (omega arith) i ∷ all l (λ j h. zeros (suc j) (omega arith)) i
+
 -- ---- what the covered functions make
 
 -- row t of the table
@@ -182,8 +198,8 @@ abbrev pub wholeOf : (held : ℕ) → ℕ
 wholeOf held = cond (ltb held 65) 64 0
 
 -- a row of up to 64 entries, or the 65th has been met; and where it goes
-pub record BuiltAs (r : List (Key × Words)) (b : ℕ) (built : Built) : Type 0 where
-  pub whole : built .held ≤ 64 → Holds r (built .words) (built .held)
+pub record BuiltAs (r : List (Key × Words)) (b : ℕ) (words : List ℕ) (built : Built) : Type 0 where
+  pub whole : built .held ≤ 64 → Holds r words (built .held)
   pub over : 64 < built .held → 64 < length r
   pub from-is : built .from ≡ 64 * b
   pub entries-is : built .entries ≡ wholeOf (built .held)
@@ -192,7 +208,7 @@ pub built-as : (plan : List ℕ) (b : ℕ) (tails : ℕ → List (Key × Words))
     → Holds r row n → (new : List ℕ) (m : ℕ)
     → Grown (leftFrom plan b tails 1 (entriesFrom row 0 n)) row new m → length new ≡ 320 → (whole : ℕ) → whole
     ≡ wholeOf m
-    → BuiltAs (leftFrom plan b tails 1 r) b (record { held = m; from = 64 * b; entries = whole; words = new })
+    → BuiltAs (leftFrom plan b tails 1 r) b new (record { held = m; from = 64 * b; entries = whole })
 built-as plan b tails r row n h new m grown size whole e = record {
   whole = λ few. record {
     few = few;
@@ -251,9 +267,6 @@ module _ (plan : List ℕ) (count : ℕ) (at : Drive) (table : List Entry) (t : 
     abbrev many : ℕ
     many = getD (at .lengths) target 0
 
-    abbrev source : List ℕ
-    source = rowFetched table (firstOf target) many
-
     known : (i : ℕ) → i < many → firstOf target ≡ 64 * target
     known i h = split (ltb target 64) (λ q. rw q refl) (λ q. absurd (never (ltb-false target 64 q)))
       where
@@ -263,57 +276,67 @@ module _ (plan : List ℕ) (count : ℕ) (at : Drive) (table : List Entry) (t : 
     source-inside : (k : ℕ) → k < many → firstOf target + k < length table
     source-inside k h = omega (arith, known k h, t .inside target k h)
 
-    source-light : (way i : ℕ) → i < many → costAt plan block way + entryAt source i .1 .0 < 2 ^ 64
-    source-light way i h =
-        let e : entryAt source i .1 .0 ≡ getD table (64 * target + i) noEntry .way .weight =
-        ap (λ (e : Key × Words). e .1 .0) (row-fetched-at table (firstOf target) many (t .few target) i h) ∙ ap
-        (λ f. getD table (f + i) noEntry .way .weight) (known i h) in
-        subst (λ (n : ℕ). costAt plan block way + n < 2 ^ 64) (sym e) (t .light way target i h)
+    -- fetched into any row
+    module _ (row : List ℕ) (size : length row ≡ 320) where
+      abbrev source : List ℕ
+      source = fetched row table (firstOf target) many
 
-    source-row : entriesFrom source 0 many ≡ rowIn table (at .lengths) target
-    unfolding entriesIn
-    source-row = fetched-entries table (firstOf target) many (t .few target) ∙ place many refl
-      where
-        place : (n : ℕ) → n ≡ many → entriesIn table (firstOf target) n ≡ entriesIn table (64 * target) n
-        place zero e = refl
-        place (suc n) e = ap (λ f. entriesIn table f (suc n)) (known 0 (omega arith))
+      source-size : length source ≡ 320
+      source-size = fetched-length row table (firstOf target) many ∙ size
+
+      source-light : (way i : ℕ) → i < many → costAt plan block way + entryAt source i .1 .0 < 2 ^ 64
+      source-light way i h =
+          let e : entryAt source i .1 .0 ≡ getD table (64 * target + i) noEntry .way .weight =
+          ap (λ (e : Key × Words). e .1 .0)
+          (row-fetched-at row size table (firstOf target) many (t .few target) i h) ∙ ap
+          (λ f. getD table (f + i) noEntry .way .weight) (known i h) in
+          subst (λ (n : ℕ). costAt plan block way + n < 2 ^ 64) (sym e) (t .light way target i h)
+
+      source-row : entriesFrom source 0 many ≡ rowIn table (at .lengths) target
+      unfolding entriesIn
+      source-row = fetched-entries row size table (firstOf target) many (t .few target) ∙ place many refl
+        where
+          place : (n : ℕ) → n ≡ many → entriesIn table (firstOf target) n ≡ entriesIn table (64 * target) n
+          place zero e = refl
+          place (suc n) e = ap (λ f. entriesIn table f (suc n)) (known 0 (omega arith))
 
   abbrev s : Sources
   s = sourcesOf plan (at .lengths) block
 
-  abbrev jump-source : List ℕ
-  jump-source = source (targetAt plan block 1)
-
-  abbrev fall-source : List ℕ
-  fall-source = source (targetAt plan block 2)
-
   abbrev Row : Sources → (first second : List ℕ) → List (Key × Words)
   Row s first second = leftFrom plan (s .b) (tailsBy (tailsIn s) first second) 1 (begunWith plan count (s .b))
 
-  made-is : Row s jump-source fall-source ≡ rowFrom plan count table (at .lengths) block
-  unfolding leftFrom
-  made-is = λ i. pouredBy plan block 2 (source-row (targetAt plan block 2) i)
-      (pouredBy plan block 1 (source-row (targetAt plan block 1) i) (begunWith plan count block))
+  -- the targets' rows, fetched into the rows f and g
+  module _ (f : List ℕ) (f-size : length f ≡ 320) (g : List ℕ) (g-size : length g ≡ 320) where
+    abbrev jump-source : List ℕ
+    jump-source = source (targetAt plan block 1) f f-size
 
-  ready : Ready plan block (tailsIn s) jump-source fall-source
-  ready = record {
-    size = t .size;
-    below = omega (arith, t .some, t .most);
-    first-size = fetched-length zeroRow table (firstOf (targetAt plan block 1)) (many (targetAt plan block 1))
-        ∙ zero-length;
-    second-size = fetched-length zeroRow table (firstOf (targetAt plan block 2)) (many (targetAt plan block 2))
-        ∙ zero-length;
-    jumps-few = t .few (targetAt plan block 1);
-    falls-few = t .few (targetAt plan block 2);
-    light = λ way i. by way i (eqb way 1);
-  }
-    where
-      by : (way i : ℕ) (c : Bool) → i < cond c (many (targetAt plan block 1)) (many (targetAt plan block 2))
-          → costAt plan block way + entryAt (cond c jump-source fall-source) i .1 .0 < 2 ^ 64
-      by way i true h = source-light (targetAt plan block 1) way i h
-      by way i false h = source-light (targetAt plan block 2) way i h
+    abbrev fall-source : List ℕ
+    fall-source = source (targetAt plan block 2) g g-size
 
-  module _ (built : Built) (is : BuiltAs (rowFrom plan count table (at .lengths) block) block built) where
+    made-is : Row s jump-source fall-source ≡ rowFrom plan count table (at .lengths) block
+    unfolding leftFrom
+    made-is = λ i. pouredBy plan block 2 (source-row (targetAt plan block 2) g g-size i)
+        (pouredBy plan block 1 (source-row (targetAt plan block 1) f f-size i) (begunWith plan count block))
+
+    ready : Ready plan block (tailsIn s) jump-source fall-source
+    ready = record {
+      size = t .size;
+      below = omega (arith, t .some, t .most);
+      first-size = source-size (targetAt plan block 1) f f-size;
+      second-size = source-size (targetAt plan block 2) g g-size;
+      jumps-few = t .few (targetAt plan block 1);
+      falls-few = t .few (targetAt plan block 2);
+      light = λ way i. by way i (eqb way 1);
+    }
+      where
+        by : (way i : ℕ) (c : Bool) → i < cond c (many (targetAt plan block 1)) (many (targetAt plan block 2))
+            → costAt plan block way + entryAt (cond c jump-source fall-source) i .1 .0 < 2 ^ 64
+        by way i true h = source-light (targetAt plan block 1) f f-size way i h
+        by way i false h = source-light (targetAt plan block 2) g g-size way i h
+
+  module _ (words : List ℕ) (built : Built)
+      (is : BuiltAs (rowFrom plan count table (at .lengths) block) block words built) where
     stores-all : built .held ≤ 64 → built .entries ≡ 64
     stores-all few = is .entries-is ∙ ap (λ c. cond c 64 0) (lt-ltb (built .held) 65 (omega arith))
 
@@ -327,17 +350,17 @@ module _ (plan : List ℕ) (count : ℕ) (at : Drive) (table : List Entry) (t : 
         (λ q. let e = stores-all (ltb-false 64 (built .held) q) in
         (omega arith, omega (arith, is .from-is, t .some, t .room)))
 
-    turned : (new : List Entry) → new ≡ stored table (built .from) (built .words) (built .entries)
+    turned : (new : List Entry) → new ≡ stored table (built .from) words (built .entries)
         → turnedBy plan count at table new (built .held)
     unfolding stored
     turned new e = record {
       whole = λ few. record {
-        row = built .words;
+        row = words;
         holds = is .whole few;
-        table-is = e ∙ ap₂ (λ f n. stored table f (built .words) n) (is .from-is) (stores-all few) ∙ stored-is table
-            (64 * block) (built .words) 64 (omega arith) (omega (arith, t .some, t .room));
+        table-is = e ∙ ap₂ (λ f n. stored table f words n) (is .from-is) (stores-all few) ∙ stored-is table
+            (64 * block) words 64 (omega arith) (omega (arith, t .some, t .room));
       };
-      over = λ m. (is .over m, e ∙ ap (stored table (built .from) (built .words)) (stores-none m));
+      over = λ m. (is .over m, e ∙ ap (stored table (built .from) words) (stores-none m));
     }
 
   -- the same, for what the covered functions returned
@@ -350,36 +373,29 @@ module _ (plan : List ℕ) (count : ℕ) (at : Drive) (table : List Entry) (t : 
     fall-asked = subst (λ (s : Sources). (s .falls ≤ 64) × ((k : ℕ) → k < s .falls → s .fall + k < length table))
         (sym r-is) (t .few (targetAt plan block 2), source-inside (targetAt plan block 2))
 
-    module _ (first second : List ℕ) (first-is : first ≡ rowFetched table (r .jump) (r .jumps))
-        (second-is : second ≡ rowFetched table (r .fall) (r .falls)) where
-      abbrev Asked : Sources → List ℕ → List ℕ → Type 0
-      Asked s first second = Ready plan (s .b) (tailsIn s) first second
+    module _ (f : List ℕ) (f-size : length f ≡ 320) (g : List ℕ) (g-size : length g ≡ 320) where
+      abbrev first : Sources → List ℕ
+      first s = fetched f table (s .jump) (s .jumps)
 
-      pub make-asked : Asked r first second
-      make-asked =
-          subst (λ (l : List ℕ). Asked r l second) (sym first-is)
-          (subst (λ (l : List ℕ). Asked r (rowFetched table (r .jump) (r .jumps)) l) (sym second-is)
-          (subst (λ (s : Sources). Asked s (rowFetched table (s .jump) (s .jumps))
-          (rowFetched table (s .fall) (s .falls))) (sym r-is) ready))
+      abbrev second : Sources → List ℕ
+      second s = fetched g table (s .fall) (s .falls)
 
-      abbrev Made : Built → Sources → List ℕ → List ℕ → Type 0
-      Made built s first second = BuiltAs (Row s first second) (s .b) built
+      pub make-asked : Ready plan (r .b) (tailsIn r) (first r) (second r)
+      make-asked = subst (λ (s : Sources). Ready plan (s .b) (tailsIn s) (first s) (second s)) (sym r-is)
+          (ready f f-size g g-size)
 
-      module _ (built : Built) (is : Made built r first second) where
-        made : BuiltAs (rowFrom plan count table (at .lengths) block) block built
+      module _ (words : List ℕ) (built : Built) (is : BuiltAs (Row r (first r) (second r)) (r .b) words built) where
+        made : BuiltAs (rowFrom plan count table (at .lengths) block) block words built
         made =
-            subst (λ (l : List (Key × Words)). BuiltAs l block built) made-is
-            (subst (λ (x : Sources). Made built x (rowFetched table (x .jump) (x .jumps))
-            (rowFetched table (x .fall) (x .falls))) r-is
-            (subst (λ (l : List ℕ). Made built r (rowFetched table (r .jump) (r .jumps)) l) second-is
-            (subst (λ (l : List ℕ). Made built r l second) first-is is)))
+            subst (λ (l : List (Key × Words)). BuiltAs l block words built) (made-is f f-size g g-size)
+            (subst (λ (s : Sources). BuiltAs (Row s (first s) (second s)) (s .b) words built) r-is is)
 
         pub store-asked : (built .entries ≤ 64) × (built .from + built .entries ≤ length table)
-        store-asked = store-fits built made
+        store-asked = store-fits words built made
 
-        pub turn-made : (new : List Entry) → new ≡ stored table (built .from) (built .words) (built .entries)
+        pub turn-made : (new : List Entry) → new ≡ stored table (built .from) words (built .entries)
             → turnedBy plan count at table new (built .held)
-        turn-made new e = turned built made new e
+        turn-made new e = turned words built made new e
 
 -- a struct's array of words has its words as they are
 pub same-words : (l : List ℕ) → map {A = ℕ} {B = ℕ} (λ v. v) l ≡ l

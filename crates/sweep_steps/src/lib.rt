@@ -2,14 +2,12 @@
 // of, the row itself, what follows it, and the answer from row 0. Nothing here has a slice of structs, and all is
 // covered; crate sweep puts these steps together over the lent table.
 ghost use mathlib.Core.Path.{_≡_};
-ghost use Prim.Native.Nat.{ℕ, suc, max, min, _*_, _-_, _^_, _<_, _≤_};
+ghost use Prim.Native.Nat.{ℕ, max, min, _-_, _^_, _<_, _≤_};
 ghost use lib.ListN.{length, getD};
 ghost use Rattle.theory.specs.Plan.{costLimit};
-ghost use Rattle.plan.specs.Prepared.{PreparedOf};
-ghost use Rattle.entries.specs.Entries.{entryPut};
-ghost use Rattle.entries.specs.Structs.{tupleOf, structAt};
+ghost use Rattle.entries.specs.Structs.{structAt};
 ghost use Rattle.rows.specs.Rows.{Ready, tailsBy, leftFrom};
-ghost use Rattle.rows.specs.Begun.{begunWith};
+ghost use Rattle.rows.specs.Begun.{begunWith, zeroRow};
 ghost use Rattle.sweep_steps.specs.Answer.{noEntry};
 ghost use Rattle.sweep_steps.specs.Turn.{firstOf, sourcesOf, tailsIn, wholeOf, BuiltAs};
 ghost use Rattle.sweep_steps.specs.Drive.{noLengths};
@@ -20,22 +18,6 @@ use entries::Entry;
 use entries::Way;
 use plan::Prepared;
 use rows::Tails;
-
-// An entry into a row's words, as its entry p.
-pub fn put_words(row: &mut [u64], p: usize, e: Entry) -> usize
-    requires { ⌜ 5 * suc p ≤ length (now row) ⌝ }
-    ensures { λ r. ⌜ now (row .exit) ≡ entryPut (now (row .entry)) p (tupleOf e) ⌝ }
-{
-    entries::put_entry(row, p, e)
-}
-
-// Entry k of a row's words.
-pub fn entry_of(words: &[u64], k: usize) -> Entry
-    requires { ⌜ 5 * suc k ≤ length (now words) ⌝ }
-    ensures { λ r. ⌜ r ≡ structAt (now (words .entry)) k ⌝ }
-{
-    entries::entry_at(words, k)
-}
 
 // Where the drive stands: whether it goes on, the blocks to come, the longest row so far, the length of the last row
 // made, and that of each row that is complete.
@@ -57,13 +39,11 @@ pub struct Sources {
     pub falls: usize,
 }
 
-// A row that is made: how many entries it has, or 65 where it is crowded; where it goes and how many entries of it; its
-// words.
+// A row that is made: how many entries it has, or 65 where it is crowded; where it goes and how many entries of it.
 pub struct Built {
     pub held: usize,
     pub from: usize,
     pub entries: usize,
-    pub words: [u64; 320],
 }
 
 // How many entries row t has; a row that there is none of has none.
@@ -108,24 +88,42 @@ fn whole_of(held: usize) -> usize
     if held < 65 { 64 } else { 0 }
 }
 
-// The row of a block, from the rows of its targets.
-pub fn make(plan: &[u64], count: usize, s: Sources, first: &[u64], second: &[u64]) -> Built
-    requires { ⌜ Ready (now plan) (s .b) (tailsIn s) (now first) (now second) ⌝ }
-    ensures { λ r. ⌜ BuiltAs (leftFrom (now (plan .entry)) (s .b) (tailsBy (tailsIn s) (now (first .entry)) (now (second .entry))) 1 (begunWith (now (plan .entry)) count (s .b))) (s .b) r ⌝ }
+// The words of a row, all zero.
+fn clear(row: &mut [u64])
+    requires { ⌜ length (now row) ≡ 320 ⌝ }
+    ensures { λ r. ⌜ now (row .exit) ≡ zeroRow ⌝ }
+{
+    let mut k = 0;
+    while k < 320 {
+        row[k] = 0;
+        k += 1;
+    }
+}
+
+// The row of a block, from the rows of its targets, in the place of whatever was made before.
+pub fn make(
+    plan: &[u64],
+    count: usize,
+    s: Sources,
+    first: &[u64],
+    second: &[u64],
+    made: &mut [u64],
+) -> Built
+    requires { ⌜ Ready (now plan) (s .b) (tailsIn s) (now first) (now second) × (length (now made) ≡ 320) ⌝ }
+    ensures { λ r. ⌜ BuiltAs (leftFrom (now (plan .entry)) (s .b) (tailsBy (tailsIn s) (now (first .entry)) (now (second .entry))) 1 (begunWith (now (plan .entry)) count (s .b))) (s .b) (now (made .exit)) r ⌝ }
 {
     let b = s.b;
     let tails = Tails {
         jumps: s.jumps,
         falls: s.falls,
     };
-    let mut words = [0; 320];
-    let begun = rows::begin(plan, b, count, &mut words);
-    let held = rows::build(plan, b, tails, first, second, &mut words, begun);
+    clear(made);
+    let begun = rows::begin(plan, b, count, made);
+    let held = rows::build(plan, b, tails, first, second, made, begun);
     Built {
         held,
         from: 64 * b,
         entries: whole_of(held),
-        words,
     }
 }
 
@@ -297,13 +295,6 @@ pub fn conclude(
         Swept::Crowded(b) => refuse(40, b),
         Swept::Rows { kept, found } => answer(count, ready.iterations, kept, found, &first, route),
     }
-}
-
-// What the sweep starts from.
-pub fn prepare(form: &[u8]) -> Prepared
-    ensures { λ r. ⌜ PreparedOf (now (form .entry)) r ⌝ }
-{
-    plan::prepare(form)
 }
 
 // A zero entry.

@@ -1,7 +1,7 @@
 -- `sweep::fetch` meets its contract: a walk of its code, by hand, since it has a slice of structs. The loop's
 -- invariant: the row has k of the table's entries; the measure is the entries to come. The
--- table's borrow is open all along; the row is lent again for each call of `put_words`. Rests on specs/Table and the
--- contract of `put_words`.
+-- table's borrow is open all along; the row is lent again for each call of `put_entry`. Rests on specs/Table and the
+-- contract of `put_entry`.
 use mathlib.Core.Path.{_≡_, refl, sym, _∙_, subst}
 use Prim.Native.Nat.{ℕ, zero, suc, _+_, _*_, _<_, _≤_, _^_}
 use native.Mathlib.Omega.{arith}
@@ -60,10 +60,10 @@ use Rattle.sweep_steps.specs.Table.{fetched, fetched-none, fetched-more, fetche
 use Rattle.sweep.proofs.Again.{LentAgain, lends-again, comes-back}
 use Rattle.entries.proofs.Entry as T
 use Rattle.entries.proofs.Entry.Laws as T′
-use Rattle.sweep_steps.proofs.put_words as put-words
-use Rattle.sweep_steps.proofs.put_words.Symbol as put-words-def
-use Rattle.sweep_steps.proofs.put_words.Symbol.{name as #sweep-steps·put-words}
-use Rattle.sweep_steps.proofs.put_words.Met as put-words-thm
+use Rattle.entries.proofs.put_entry as put-entry
+use Rattle.entries.proofs.put_entry.Symbol as put-entry-def
+use Rattle.entries.proofs.put_entry.Symbol.{name as #entries·put-entry}
+use Rattle.entries.proofs.put_entry.Met as put-entry-thm
 use Rattle.sweep.proofs.fetch.Key.{name as #sweep·fetch}
 use Rattle.sweep.proofs.fetch as the-fetch
 use Rattle.sweep.proofs.fetch.Statement as stated
@@ -110,8 +110,8 @@ offset-fits i n l r = omega arith
 -- ---- the contract that the proof cites
 
 module _ {M : Type 1} (𝓤 : URA M) (H : Heap 𝓤) (A : Atoms 𝓤) (mem : Memory → SProp 𝓤) (run : Routine → Fun 𝓤) where
-  abbrev PutWords : Contract 𝓤
-  PutWords = tripleOf 𝓤 H A put-words.signature (put-words.spec 𝓤 H A mem run)
+  abbrev PutEntry : Contract 𝓤
+  PutEntry = tripleOf 𝓤 H A put-entry.signature (put-entry.spec 𝓤 H A mem run)
 
 -- ---- the walk
 
@@ -187,7 +187,7 @@ module _ {M : Type 1} (𝓤 : URA M) (H : Heap 𝓤) (A : Atoms 𝓤) (W : Given
   words-room : (k : ℕ) → Room u64 (length (after k))
   words-room k = subst (Room u64) (sym (after-length k)) room₁
 
-  -- the row, lent again for the lifetime ν, under the name δ; what `put_words`'s triple binds outside, and that the
+  -- the row, lent again for the lifetime ν, under the name δ; what `put_entry`'s triple binds outside, and that the
   -- caller has what it asks
   asked : (k : ℕ) → k < n → 5 * suc k ≤ length (after k)
   asked k small = omega (arith, small, few, after-length k, size-is)
@@ -195,7 +195,7 @@ module _ {M : Type 1} (𝓤 : URA M) (H : Heap 𝓤) (A : Atoms 𝓤) (W : Given
   abbrev Lent : ℕ → ℕ → GName → Fml
   Lent k ν δ = MutSlice (named 0) (ν ∷ []) u64 .own (y δ (after k)) (sliceVal (b₁, o₁) (length (after k)) ∷ [])
 
-  abbrev to : ℕ → ℕ → GName → PutWords 𝓤 H A mem run .Ghost
+  abbrev to : ℕ → ℕ → GName → PutEntry 𝓤 H A mem run .Ghost
   to k ν δ = (
     (
       (ν ∷ [], tt),
@@ -208,7 +208,7 @@ module _ {M : Type 1} (𝓤 : URA M) (H : Heap 𝓤) (A : Atoms 𝓤) (W : Given
   )
 
   goes : (k : ℕ) → k < n → Is R (entry (start + k)) (mach (start + k) ∷ []) → (ν : ℕ) (δ : GName)
-      → ent 𝓤 (sep 𝓤 (A .lft (ν ∷ []) fullShare) (sem 𝓤 H A (Lent k ν δ))) (PutWords 𝓤 H A mem run .pre (to k ν δ))
+      → ent 𝓤 (sep 𝓤 (A .lft (ν ∷ []) fullShare) (sem 𝓤 H A (Lent k ν δ))) (PutEntry 𝓤 H A mem run .pre (to k ν δ))
   goes k small is-e ν δ =
       qed W (‵ (flft (ν ∷ []) fullShare) ∷ ‵ (Lent k ν δ) ∷ []) ∵ says ! (asked k small) $ nothing ! $ move !
       (1 ∷ 0 ∷ []) $ join ! $ frame ! $
@@ -216,7 +216,7 @@ module _ {M : Type 1} (𝓤 : URA M) (H : Heap 𝓤) (A : Atoms 𝓤) (W : Given
       owned ! usize (Is usize) (uint-makes 𝓤 H A W w64) k _ (refl, omega (arith, small, n-fits)) $ fjoin ! $ move !
       (1 ∷ 0 ∷ []) $ fjoin ! $ done !
 
-  module _ (𝓣 : Tables 𝓤 H) (known : Triple 𝓤 (𝓣 .C #sweep-steps·put-words) (PutWords 𝓤 H A mem run))
+  module _ (𝓣 : Tables 𝓤 H) (known : Triple 𝓤 (𝓣 .C #entries·put-entry) (PutEntry 𝓤 H A mem run))
       (l₀ l₁ l₂ l₃ l₄ l₅ l₆ l₇ l₈ l₉ l₁₀ l₁₁ l₁₂ l₁₃ : ℕ) where
     abbrev C : Calls 𝓤 H
     C = 𝓣 .C
@@ -224,7 +224,7 @@ module _ {M : Type 1} (𝓤 : URA M) (H : Heap 𝓤) (A : Atoms 𝓤) (W : Given
     abbrev Λ : Loops 𝓤 H
     Λ = 𝓣 .Λ
 
-    -- _0 how many; table, from, entries, row; _5 k, _6 i, _7 the test, _8 `put_words`'s number, _9 and _10 the row's
+    -- _0 how many; table, from, entries, row; _5 k, _6 i, _7 the test, _8 `put_entry`'s number, _9 and _10 the row's
     -- pointer and slice, _11 the entry's offset, _12 its place, _13 the entry
     abbrev En : Env 𝓤 H
     En = (word, l₀) ∷ (tabTy, l₁) ∷ (word, l₂) ∷ (word, l₃) ∷ (rowTy, l₄) ∷ (word, l₅) ∷ (word, l₆) ∷ (tyBool, l₇) ∷
@@ -292,22 +292,22 @@ module _ {M : Type 1} (𝓤 : URA M) (H : Heap 𝓤) (A : Atoms 𝓤) (W : Given
         use1 W (‵ (cellAt fullShare (R .mir) (mach (start + k) ∷ []) b (place stride o (start + k))))
         (W .laws .at-raw fullShare T′.mir b (place stride o (start + k)) (mach (start + k))) $
         elem-back ! R fullShare ys (start + k) noEntry (mach (start + k) ∷ []) b o small-place $
-        -- `put_words`, with the row lent again for a lifetime ν
+        -- `put_entry`, with the row lent again for a lifetime ν
         lft-new ! tt (λ ν. move ! (2 ∷ 3 ∷ []) $ use2 W (later
         (some (λ (δ : GName). ‵ (Lent k ν δ) ⊛ ‵ (LentAgain u64 κ₁ (ν ∷ []) q₁ γ₁ b₁ o₁ δ (after k)))))
         (lends-again u64 κ₁ (ν ∷ []) q₁ γ₁ b₁ o₁ 𝓤 H A W (named 1) (named 0) (after k)) $ await ! tt $ pick !
         (λ δ. split ! $
-        move ! (2 ∷ 0 ∷ []) $ use2 W (raw (PutWords 𝓤 H A mem run .pre (to k ν δ))) (goes k small is-e ν δ) $
-        calls-at ! (fmOf 𝓤 H (W .laws) 𝓣) (PutWords 𝓤 H A mem run) known (to k ν δ)
+        move ! (2 ∷ 0 ∷ []) $ use2 W (raw (PutEntry 𝓤 H A mem run .pre (to k ν δ))) (goes k small is-e ν δ) $
+        calls-at ! (fmOf 𝓤 H (W .laws) 𝓣) (PutEntry 𝓤 H A mem run) known (to k ν δ)
         (and-then ! (load ! (from ! (stop !)) (look ! 8 refl))
         (and-then ! (load ! (from ! (stop !)) (look ! 3 refl))
         (and-then ! (load ! (from ! (stop !)) (look ! 11 refl)) (no-more !)))) (λ w.
         use1 W (later (some (λ (r : ℕ). ((‵ (flft (ν ∷ []) fullShare) ⊛ ‵ ftrue) ⊛ ‵ (usize .own r (w ∷ []))) ⊛ raw
-        (ensured 𝓤 H A put-words.ended (put-words.clauses 𝓤 H A mem run) (ν ∷ [], tt)
+        (ensured 𝓤 H A put-entry.ended (put-entry.clauses 𝓤 H A mem run) (ν ∷ [], tt)
         (y δ (after k), (k, (entry (start + k), tt))) tt r)))) (id⊢ 𝓤 _) $ await ! tt $ pick ! (λ r.
         split ! $ move ! (1 ∷ []) $
         use1 W (some (λ (ls : List ℕ × (Unit {0} × (Unit {0} × Unit {0}))). ‵
-        (lasts put-words.ended (ν ∷ [], tt) (y δ (after k), (k, (entry (start + k), tt))) ls) ⊛ raw
+        (lasts put-entry.ended (ν ∷ [], tt) (y δ (after k), (k, (entry (start + k), tt))) ls) ⊛ raw
         (fact 𝓤 (ls .0 ≡ entryPut (after k) k (tupleOf (entry (start + k))))))) (id⊢ 𝓤 _) $ pick ! (λ ls.
         split ! $ move ! (1 ∷ []) $ heard ! (ls .0 ≡ entryPut (after k) k (tupleOf (entry (start + k))))
         (λ e. fsplit ! $ fsplit ! $ move ! (1 ∷ []) $ feqL ! (λ wl.
@@ -384,7 +384,7 @@ module _ {M : Type 1} (𝓤 : URA M) (H : Heap 𝓤) (A : Atoms 𝓤) (W : Given
         (λ k. guardE 𝓤 (k + t ≡ n) (⋆ 𝓤 H A (At k)) (λ f. turn-at t k f))) n)
 
   -- the code up to the loop: the table's borrow is opened
-  walk : (𝓣 : Tables 𝓤 H) → Triple 𝓤 (𝓣 .C #sweep-steps·put-words) (PutWords 𝓤 H A mem run)
+  walk : (𝓣 : Tables 𝓤 H) → Triple 𝓤 (𝓣 .C #entries·put-entry) (PutEntry 𝓤 H A mem run)
       → ent 𝓤 (onEntry 𝓤 H A the-fetch.signature (κ, (κ₁, tt)) (q, (q₁, tt)) a vals)
       (WpFn 𝓤 H (𝓣 .C) (𝓣 .Λ) code.function (s ∷ vint w64 start ∷ vint w64 n ∷ s₁ ∷ []) Post)
   walk 𝓣 known =
@@ -412,7 +412,7 @@ module _ {M : Type 1} (𝓤 : URA M) (H : Heap 𝓤) (A : Atoms 𝓤) (W : Given
 
 module _ {M : Type 1} (𝓤 : URA M) (H : Heap 𝓤) (A : Atoms 𝓤) (W : Given 𝓤 H A) (mem : Memory → SProp 𝓤)
     (run : Routine → Fun 𝓤) where
-  fetch-walks : (𝓣 : Tables 𝓤 H) → Triple 𝓤 (𝓣 .C #sweep-steps·put-words) (PutWords 𝓤 H A mem run)
+  fetch-walks : (𝓣 : Tables 𝓤 H) → Triple 𝓤 (𝓣 .C #entries·put-entry) (PutEntry 𝓤 H A mem run)
       → Walks 𝓤 H A the-fetch.ended stayed (WpFn 𝓤 H (𝓣 .C) (𝓣 .Λ) code.function) (the-fetch.clauses 𝓤 H A mem run)
   fetch-walks 𝓣 known = walked 𝓤 H A the-fetch.ended stayed (the-fetch.clauses 𝓤 H A mem run)
       (WpFn 𝓤 H (𝓣 .C) (𝓣 .Λ) code.function)
@@ -432,7 +432,7 @@ module _ {M : Type 1} (𝓤 : URA M) (H : Heap 𝓤) (A : Atoms 𝓤) (W : Given
       (are .1 .1 .0 .1) (are .0 .0 .1) (are .1 .1 .1 .0 .0 .1) (h .0 .0) (h .0 .1) (h .1) 𝓣 known))
 
 fetch-meets : {M : Type 1} (𝓤 : URA M) (H : Heap 𝓤) (A : Atoms 𝓤) → Given 𝓤 H A → (mem : Memory → SProp 𝓤)
-    (run : Routine → Fun 𝓤) (𝓣 : Tables 𝓤 H) → Triple 𝓤 (𝓣 .C #sweep-steps·put-words) (PutWords 𝓤 H A mem run)
+    (run : Routine → Fun 𝓤) (𝓣 : Tables 𝓤 H) → Triple 𝓤 (𝓣 .C #entries·put-entry) (PutEntry 𝓤 H A mem run)
     → Meets 𝓤 H A the-fetch.signature (WpFn 𝓤 H (𝓣 .C) (𝓣 .Λ) code.function) (the-fetch.spec 𝓤 H A mem run)
 fetch-meets 𝓤 H A W mem run 𝓣 known =
     walk-meets 𝓤 H A the-fetch.ended stayed W (
@@ -451,6 +451,6 @@ fetch-spec 𝓤 H 𝓜 𝓖 𝓡 =
     entered 𝓤 H (tripleOf 𝓤 H (𝓖 .A) the-fetch.signature (the-fetch.spec 𝓤 H (𝓖 .A) (𝓜 .mem) (𝓡 .run)))
     (tables 𝓤 H 𝓜 𝓡 code.env .C) (tables 𝓤 H 𝓜 𝓡 code.env .Λ) #sweep·fetch code.function (code.unfolded 𝓤 H 𝓜 𝓡)
     (fetch-meets 𝓤 H (𝓖 .A) (givenOf 𝓤 H 𝓜 𝓖) (𝓜 .mem) (𝓡 .run) (tablesOf 𝓤 H 𝓜 (tables 𝓤 H 𝓜 𝓡 code.env))
-    (cited 𝓤 H (PutWords 𝓤 H (𝓖 .A) (𝓜 .mem)
-    (𝓡 .run)) 𝓜 𝓡 code.env #sweep-steps·put-words put-words-def.routine code.calls-sweep-steps·put-words
-    (put-words-thm.met 𝓤 H 𝓜 𝓖 𝓡)))
+    (cited 𝓤 H (PutEntry 𝓤 H (𝓖 .A) (𝓜 .mem)
+    (𝓡 .run)) 𝓜 𝓡 code.env #entries·put-entry put-entry-def.routine code.calls-entries·put-entry
+    (put-entry-thm.met 𝓤 H 𝓜 𝓖 𝓡)))

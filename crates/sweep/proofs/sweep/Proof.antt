@@ -67,10 +67,10 @@ use Rattle.sweep_steps.specs.Turn.{same-words}
 use Rattle.sweep_steps.specs.Ends.{allowedOf, concluded, WeightFew, Rowed, count-few, iterations-few, rows-asked, light, ended}
 use Rattle.sweep.proofs.Lent.{big-lit, arrayTy, repeated-length, repeated-typed, repeated-out, array-out, array-back, words-at, words-val, words-lent, lends-words, words-back}
 use Rattle.sweep.proofs.Again.{LentAgain, lends-again, comes-back}
-use Rattle.sweep_steps.proofs.prepare as the-prepare
-use Rattle.sweep_steps.proofs.prepare.Symbol as prepare-def
-use Rattle.sweep_steps.proofs.prepare.Symbol.{name as #sweep-steps·prepare}
-use Rattle.sweep_steps.proofs.prepare.Met as prepare-thm
+use Rattle.plan.proofs.prepare as the-prepare
+use Rattle.plan.proofs.prepare.Symbol as prepare-def
+use Rattle.plan.proofs.prepare.Symbol.{name as #plan·prepare}
+use Rattle.plan.proofs.prepare.Met as prepare-thm
 use Rattle.sweep_steps.proofs.allowed as the-allowed
 use Rattle.sweep_steps.proofs.allowed.Symbol as allowed-def
 use Rattle.sweep_steps.proofs.allowed.Symbol.{name as #sweep-steps·allowed}
@@ -405,7 +405,7 @@ module _ {M : Type 1} (𝓤 : URA M) (H : Heap 𝓤) (A : Atoms 𝓤) (W : Given
       owned ! S.the-row (Is S.the-row) (EL.makes S.the-type S′.the-plain 𝓤 H A) r _ is $ move ! (1 ∷ 0 ∷ []) $ done !
 
   module _ (C : Calls 𝓤 H) (Λ : Loops 𝓤 H) (fm : FmC 𝓤 H (W .laws) C)
-      (known-prepare : Triple 𝓤 (C #sweep-steps·prepare) (Prepare 𝓤 H A mem run))
+      (known-prepare : Triple 𝓤 (C #plan·prepare) (Prepare 𝓤 H A mem run))
       (known-allowed : Triple 𝓤 (C #sweep-steps·allowed) (Allowed 𝓤 H A mem run))
       (known-sweep-rows : Triple 𝓤 (C #sweep·sweep-rows) (SweepRows 𝓤 H A mem run))
       (known-lesser : Triple 𝓤 (C #sweep-steps·lesser) (Lesser 𝓤 H A mem run))
@@ -652,7 +652,7 @@ module _ {M : Type 1} (𝓤 : URA M) (H : Heap 𝓤) (A : Atoms 𝓤) (W : Given
 
 module _ {M : Type 1} (𝓤 : URA M) (H : Heap 𝓤) (A : Atoms 𝓤) (W : Given 𝓤 H A) (mem : Memory → SProp 𝓤)
     (run : Routine → Fun 𝓤) (𝓣 : Tables 𝓤 H)
-    (known-prepare : Triple 𝓤 (𝓣 .C #sweep-steps·prepare) (Prepare 𝓤 H A mem run))
+    (known-prepare : Triple 𝓤 (𝓣 .C #plan·prepare) (Prepare 𝓤 H A mem run))
     (known-allowed : Triple 𝓤 (𝓣 .C #sweep-steps·allowed) (Allowed 𝓤 H A mem run))
     (known-sweep-rows : Triple 𝓤 (𝓣 .C #sweep·sweep-rows) (SweepRows 𝓤 H A mem run))
     (known-lesser : Triple 𝓤 (𝓣 .C #sweep-steps·lesser) (Lesser 𝓤 H A mem run))
@@ -694,7 +694,7 @@ sweep-spec 𝓤 H 𝓜 𝓖 𝓡 =
     (tables 𝓤 H 𝓜 𝓡 code.env .C) (tables 𝓤 H 𝓜 𝓡 code.env .Λ) #sweep·sweep code.function (code.unfolded 𝓤 H 𝓜 𝓡)
     (sweep-meets 𝓤 H (𝓖 .A) (givenOf 𝓤 H 𝓜 𝓖) (𝓜 .mem) (𝓡 .run) (tablesOf 𝓤 H 𝓜 (tables 𝓤 H 𝓜 𝓡 code.env))
     (cited 𝓤 H (Prepare 𝓤 H (𝓖 .A) (𝓜 .mem)
-    (𝓡 .run)) 𝓜 𝓡 code.env #sweep-steps·prepare prepare-def.routine code.calls-sweep-steps·prepare (prepare-thm.met 𝓤 H 𝓜 𝓖 𝓡))
+    (𝓡 .run)) 𝓜 𝓡 code.env #plan·prepare prepare-def.routine code.calls-plan·prepare (prepare-thm.met 𝓤 H 𝓜 𝓖 𝓡))
     (cited 𝓤 H (Allowed 𝓤 H (𝓖 .A) (𝓜 .mem)
     (𝓡 .run)) 𝓜 𝓡 code.env #sweep-steps·allowed allowed-def.routine code.calls-sweep-steps·allowed (allowed-thm.met 𝓤 H 𝓜 𝓖 𝓡))
     (cited 𝓤 H (SweepRows 𝓤 H (𝓖 .A) (𝓜 .mem)

@@ -9,9 +9,9 @@ use Rattle.sweep_steps.proofs.make.Tie as tie
 
 returns : tie.Need-returns
 returns c =
-    let built = c .before .before in
-    let begun = built .before .before .before in
-    let a = begun .before .before .before .before .before .args in
+    let built = c .before .before .before in
+    let begun = built .before .before .before .before in
+    let a = begun .before .before .before .before .before .before .before .before .before .before .args in
     built-as (a .plan .now) (a .s .b) (tailsBy (tailsIn (a .s)) (a .first .now) (a .second .now))
     (begunWith (a .plan .now) (a .count) (a .s .b)) (begun .begin .last .1 .1 .1 .0) (begun .begin .result)
     (begun .begin .ensures)
@@ -23,10 +23,10 @@ pub make-spec : {M : Type 1} → statement M
 make-spec =
     tie.close
     (tie.spec
-    (λ c. search needs)
+    (λ c κs. search needs)
+    (λ c κs. search needs)
     (λ c κs. search needs)
     (λ c. search needs)
     (λ c κs. search needs)
     (λ c. search needs)
-    (λ c κs. search needs)
     returns)
