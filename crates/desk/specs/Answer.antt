@@ -8,7 +8,7 @@ use Rattle.form.specs.declared.Written.{Written}
 use Rattle.form.specs.Form.{when, judge, bodyOf, lay}
 use Rattle.form.specs.Answer.{accepted, numberOf, placeOf, writtenNumber, writtenPlace, written, heldAfter}
 use Rattle.counter.specs.Answer as Counter
-use Rattle.walk.specs.Answer as Walk
+use Rattle.plan.specs.Owed.{Values}
 use Rattle.rows.specs.declared.Entry.{Entry}
 use Rattle.sweep.specs.Answer as Sweep
 use Rattle.sweep.specs.declared.SweepAnswer.{SweepAnswer}
@@ -49,7 +49,7 @@ walkNumbers number place iterations weight bound walked =
     record { number = number; place = place; iterations = iterations; weight = weight; bound = bound; walked = walked }
 
 -- The full walk's, as its own definition has it
-abbrev pub walkValues : WalkNumbers → Walk.Values
+abbrev pub walkValues : WalkNumbers → Values
 walkValues answer =
     record {
       number = answer .number;
@@ -57,7 +57,7 @@ walkValues answer =
       iterations = answer .iterations;
       weight = answer .weight;
       bound = answer .bound;
-      walked = answer .walked;
+      keptOrWalked = answer .walked;
     }
 
 -- The conflict list's; an entry has 5 bytes
@@ -69,10 +69,10 @@ sweepNumbers number place iterations weight bound kept =
     record { number = number; place = place; iterations = iterations; weight = weight; bound = bound; kept = kept }
 
 -- The sweep's
-abbrev pub sweepSaid : SweepAnswer → Sweep.Values
+abbrev pub sweepSaid : SweepAnswer → Values
 sweepSaid answer = Sweep.said answer
 
-abbrev pub sweepValues : SweepNumbers → Sweep.Values
+abbrev pub sweepValues : SweepNumbers → Values
 sweepValues answer =
     record {
       number = answer .number;
@@ -80,7 +80,7 @@ sweepValues answer =
       iterations = answer .iterations;
       weight = answer .weight;
       bound = answer .bound;
-      kept = answer .kept;
+      keptOrWalked = answer .kept;
     }
 
 abbrev pub sweptOutcome : SweepNumbers → (route : List ℕ) → (table : List Entry) → Sweep.Outcome

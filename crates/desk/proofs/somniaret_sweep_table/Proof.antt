@@ -40,7 +40,8 @@ use denote.Signature.{plain}
 use Rattle.sweep.proofs.SweepAnswer as S
 use Rattle.sweep.proofs.SweepAnswer.Laws as S′
 use Rattle.sweep.specs.declared.SweepAnswer.{SweepAnswer}
-use Rattle.sweep.specs.Answer.{Values, outcomeOf, SweepOwed}
+use Rattle.plan.specs.Owed.{Values}
+use Rattle.sweep.specs.Answer.{outcomeOf, SweepOwed}
 use Rattle.rows.specs.declared.Entry.{Entry}
 use Rattle.desk.specs.declared.SweepNumbers.{SweepNumbers}
 use Rattle.desk.specs.Answer.{sweepValues, sweepSaid, sweptOutcome}
