@@ -71,7 +71,7 @@ one-walk form budget route held held′ a b o p =
             iterations = e i .0 .iterations;
             weight = e i .0 .weight;
             bound = e i .0 .bound;
-            walked = e i .0 .walked;
+            walked = e i .0 .keptOrWalked;
           }),
       (λ i. e i .1),
     )
@@ -92,7 +92,7 @@ one-sweep-table form route held held′ table rows rows′ a b o p =
             iterations = e i .values .iterations;
             weight = e i .values .weight;
             bound = e i .values .bound;
-            kept = e i .values .kept;
+            kept = e i .values .keptOrWalked;
           }),
       ((λ i. e i .route), (λ i. e i .table)),
     )

@@ -37,6 +37,13 @@ module _ {A : Type 0} where
   mem-swap z x y r (inr (inl q)) = inl q
   mem-swap z x y r (inr (inr m)) = inr (inr m)
 
+  -- an entry that stands there by a test
+  pub tested-out : (c : Bool) (x y : A) → Mem y (cond c (x ∷ []) []) → (c ≡ true) × (y ≡ x)
+  tested-out true x y (inl e) = (refl, e)
+
+  pub tested-in : (c : Bool) (x : A) → c ≡ true → Mem x (cond c (x ∷ []) [])
+  tested-in c x h = rw h (inl refl)
+
   -- a member cuts its list
   pub cut : (l : List A) (e : A) → Mem e l → (a : List A) × (b : List A) × (l ≡ a ++ (e ∷ b))
   cut (x ∷ l) e (inl p) = ([], l, rw p)

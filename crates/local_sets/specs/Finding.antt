@@ -64,23 +64,23 @@ module _ (body : Body) (size : length (body .blocks) ≡ 64) (c : Columns)
   abbrev Shows : List ℕ → ℕ → Type 0
   Shows relation way = (k : ℕ) → k < 64 → conditionAt t relation k ≡ condition body (k, way)
 
-  by-jump : Shows (t .jump) 1
+  shows : (relation : List ℕ) (way : ℕ)
+      → ((k : ℕ) → k < 64 → getD relation k 0 ≡ condition body (k, way) .relation) → Shows relation way
   unfolding condition block
-  by-jump k h =
+  shows relation way is k h =
       λ i. record {
         variable = shown .variables .at k h i;
-        relation = shown .jumps .at k h i;
+        relation = is k h i;
         constant = shown .constants .at k h i;
       }
 
+  by-jump : Shows (t .jump) 1
+  unfolding condition block
+  by-jump = shows (t .jump) 1 (shown .jumps .at)
+
   by-fall : Shows (t .fall) 2
   unfolding condition block
-  by-fall k h =
-      λ i. record {
-        variable = shown .variables .at k h i;
-        relation = shown .falls .at k h i;
-        constant = shown .constants .at k h i;
-      }
+  by-fall = shows (t .fall) 2 (shown .falls .at)
 
   -- ---- rows of effects
   passed-is : (b : ℕ) → b ≤ 64 → passed (c .owned) b ≡ effectsBelow body b

@@ -13,9 +13,9 @@ use Rattle.laws.specs.Terms.{Mem, each, anyOf, range, Sorted, next}
 use Rattle.laws.specs.Tests.{clash, and-out, and-in, or-out, or-in-left, or-in-right, not-out}
 use Rattle.laws.specs.Orders.{ltb-order, next-first, next-same}
 use Rattle.laws.specs.Lists.{mem-left, mem-right, mem-append, each-out, each-in, anyOf-out, anyOf-in, range-in}
-use Rattle.laws.specs.Lists.{range-sorted, sorted-append, sorted-each}
+use Rattle.laws.specs.Lists.{range-sorted, sorted-append, sorted-each, tested-out, tested-in}
 use Rattle.form.specs.declared.Body.{Body}
-use Rattle.form.specs.Conflict.{Edge, block, exitsBy, exits, isTest, condition, touches, opposes, denies, contradict}
+use Rattle.form.specs.Conflict.{Edge, block, exits, isTest, condition, touches, opposes, denies, contradict}
 use Rattle.form.specs.Conflict.{Onward, Clean, clean, leads, Pair, secondOf, assigned, crossed, assignmentPair}
 use Rattle.form.specs.Conflict.{edgePair, pairsOf, conflicts, Assigned, Crossed, Holds, ascends}
 use Rattle.form.specs.Conflict.Clean.{here, onward}
@@ -106,13 +106,6 @@ module _ (body : Body) (w : Onward body) where
         and-in (and-in (and-in x y) ((contradict-says (condition body (b, way)) (condition body e)) .1 k))
         ((clean-says body w v t (e .0) real) .1 c)
 
-  -- an entry that stands there by a test
-  put-out : {A : Type 0} (c : Bool) (x y : A) → Mem y (cond c (x ∷ []) []) → (c ≡ true) × (y ≡ x)
-  put-out true x y (inl e) = (refl, e)
-
-  put-in : {A : Type 0} (c : Bool) (x : A) → c ≡ true → Mem x (cond c (x ∷ []) [])
-  put-in c x h = rw h (inl refl)
-
   abbrev assignments : Edge → ℕ → List Pair
   assignments e b = cond (assigned body b e) (assignmentPair body e b ∷ []) []
 
@@ -132,12 +125,12 @@ module _ (body : Body) (w : Onward body) where
           → Held e p
       go (inl n) =
           let (b, i, k) = each-out (range 0 (body .count)) (assignments e) p n in
-          let (h, q) = put-out (assigned body b e) (assignmentPair body e b) p k in
+          let (h, q) = tested-out (assigned body b e) (assignmentPair body e b) p k in
           inl (b, (assigned-says e real b) .0 h, q)
       go (inr n) =
           let (b, i, k) = each-out (range 0 (body .count)) (edges e) p n in
           let (o, j, l) = each-out (exits body b) (λ o. cond (crossed body b o e) (edgePair e b o ∷ []) []) p k in
-          let (h, q) = put-out (crossed body b o e) (edgePair e b o) p l in
+          let (h, q) = tested-out (crossed body b o e) (edgePair e b o) p l in
           inr (b, o, j, crossed-out e real b o j h, q)
 
   assignment-in : (e : Edge) → e .0 < body .count → (b : ℕ) → b < body .count → Assigned body b e
@@ -146,7 +139,7 @@ module _ (body : Body) (w : Onward body) where
   assignment-in e real b h a =
       mem-left _ (each (range 0 (body .count)) (assignments e)) (each (range 0 (body .count)) (edges e))
       (each-in (range 0 (body .count)) (assignments e) b _ (range-in 0 (body .count) b (omega arith) (omega arith))
-      (put-in (assigned body b e) (assignmentPair body e b) ((assigned-says e real b) .1 a)))
+      (tested-in (assigned body b e) (assignmentPair body e b) ((assigned-says e real b) .1 a)))
 
   edge-in : (e : Edge) → e .0 < body .count → (b way : ℕ) → (c : Crossed body (b, way) e)
       → Mem (edgePair e b (way, c .3 .0)) (pairsOf body e)
@@ -157,7 +150,7 @@ module _ (body : Body) (w : Onward body) where
       (each-in (range 0 (body .count)) (edges e) b _
       (range-in 0 (body .count) b (omega arith) (omega (arith, inside b o (c .3 .1))))
       (each-in (exits body b) (λ o. cond (crossed body b o e) (edgePair e b o ∷ []) []) o _ (c .3 .1)
-      (put-in (crossed body b o e) (edgePair e b o) (crossed-in e real b way c))))
+      (tested-in (crossed body b o e) (edgePair e b o) (crossed-in e real b way c))))
 
   assigned-inside : (b : ℕ) (e : Edge) → e .0 < body .count → Assigned body b e → b < body .count
   assigned-inside b e real a = go (a .1)

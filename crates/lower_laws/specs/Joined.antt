@@ -3,7 +3,7 @@
 -- (`listed-way`). Rests on ConflictList, Listed, Endings and PairTest.
 use mathlib.Core.Path.{_≡_, refl, sym, ap, ap₂, subst, _∙_}
 use mathlib.Core.Logic.{_⊎_, inl, inr}
-use mathlib.Core.Bool.{Bool, true, false, not, cond, _||_, _&&_, and-false, or-false}
+use mathlib.Core.Bool.{Bool, true, false, not, cond, _||_, _&&_, and-false}
 use mathlib.Core.List.{List, [], _∷_, _++_, append-nil}
 use Prim.Native.Nat.{ℕ, zero, suc, _+_, _≤_, _<_}
 use native.Mathlib.Omega.{arith}
@@ -13,6 +13,7 @@ use lib.ListN.{length, take, length-take}
 use Rattle.laws.specs.Terms.{Mem, each, anyOf, any, range}
 use Rattle.laws.specs.Tests.{clash, both, split, is-false, or-out, or-in-left, or-in-right, any-in, any-out}
 use Rattle.laws.specs.Lists.{mem-left, mem-right, mem-append, each-out, each-in, each-same, range-in}
+use Rattle.laws.specs.Lists.{tested-out, tested-in}
 use Rattle.form.specs.declared.Body.{Body}
 use Rattle.form.specs.declared.Block.{Block}
 use Rattle.form.specs.Conflict.{Edge, noBlock, block, effectsOf, touches, lastOn, exitsBy, exits, wayTo, isTest}
@@ -199,12 +200,6 @@ module _ (body : Body) where
 
     -- ---- the edges that the list pairs with a first below a block
 
-    put-out : {A : Type 0} (c : Bool) (x y : A) → Mem y (cond c (x ∷ []) []) → (c ≡ true) × (y ≡ x)
-    put-out true x y (inl e) = (refl, e)
-
-    put-in : {A : Type 0} (c : Bool) (x : A) → c ≡ true → Mem x (cond c (x ∷ []) [])
-    put-in c x h = rw h (inl refl)
-
     abbrev firstAssigned : Edge → ℕ → List Pair
     firstAssigned e b = cond (assigned body b e) (assignmentPair body e b ∷ []) []
 
@@ -222,13 +217,13 @@ module _ (body : Body) where
         crossing : (b : ℕ) → Mem p (cond (byWay 1 b e) (edgePair e b (1, 0) ∷ []) []) ⊎ Mem p (cond (byWay 2 b e)
             (edgePair e b (2, 0) ∷ []) []) → (p .second ≡ e .0) × (p .outcome ≡ e .1)
             × ((assigned body (p .first) e || (byWay 1 (p .first) e || byWay 2 (p .first) e)) ≡ true)
-        crossing b (inl n) = let (h, q) = put-out (byWay 1 b e) (edgePair e b (1, 0)) p n in (
+        crossing b (inl n) = let (h, q) = tested-out (byWay 1 b e) (edgePair e b (1, 0)) p n in (
           ap (λ (p : Pair). p .second) q,
           ap (λ (p : Pair). p .outcome) q,
           or-in-right (assigned body (p .first) e)
               (or-in-left _ (ap (λ (p : Pair). byWay 1 (p .first) e) q ∙ h)),
         )
-        crossing b (inr n) = let (h, q) = put-out (byWay 2 b e) (edgePair e b (2, 0)) p n in (
+        crossing b (inr n) = let (h, q) = tested-out (byWay 2 b e) (edgePair e b (2, 0)) p n in (
           ap (λ (p : Pair). p .second) q,
           ap (λ (p : Pair). p .outcome) q,
           or-in-right (assigned body (p .first) e)
@@ -240,7 +235,7 @@ module _ (body : Body) where
             × ((assigned body (p .first) e || (byWay 1 (p .first) e || byWay 2 (p .first) e)) ≡ true)
         go (inl n) =
             let (b, i, k) = each-out (range 0 64) (firstAssigned e) p n in
-            let (h, q) = put-out (assigned body b e) (assignmentPair body e b) p k in (
+            let (h, q) = tested-out (assigned body b e) (assignmentPair body e b) p k in (
               ap (λ (p : Pair). p .second) q,
               ap (λ (p : Pair). p .outcome) q,
               or-in-left _
@@ -259,38 +254,32 @@ module _ (body : Body) where
           assignmentPair body e f,
           mem-left _ (each (range 0 64) (firstAssigned e))
               (each (range 0 64) (firstCrossed e))
-              (each-in (range 0 64) (firstAssigned e) f _ here-in (put-in (assigned body f e) _ k)),
+              (each-in (range 0 64) (firstAssigned e) f _ here-in (tested-in (assigned body f e) _ k)),
           refl,
           refl,
           refl,
         ))
         (λ k. or-out (byWay 1 f e) _ k
-        (λ k. (
-          edgePair e f (1, 0),
-          crossing (edgePair e f (1, 0))
-              (mem-left _ (cond (byWay 1 f e) (edgePair e f (1, 0) ∷ []) [])
-              (cond (byWay 2 f e) (edgePair e f (2, 0) ∷ []) []) (put-in (byWay 1 f e) _ k)),
-          refl,
-          refl,
-          refl,
-        ))
-        (λ k. (
-          edgePair e f (2, 0),
-          crossing (edgePair e f (2, 0))
-              (mem-right _ (cond (byWay 1 f e) (edgePair e f (1, 0) ∷ []) [])
-              (cond (byWay 2 f e) (edgePair e f (2, 0) ∷ []) []) (put-in (byWay 2 f e) _ k)),
-          refl,
-          refl,
-          refl,
-        )))
+        (λ k. crossed-by 1 (mem-left _ (by 1) (by 2) (tested-in (byWay 1 f e) _ k)))
+        (λ k. crossed-by 2 (mem-right _ (by 1) (by 2) (tested-in (byWay 2 f e) _ k))))
       where
         here-in : Mem f (range 0 64)
         here-in = range-in 0 64 f (omega arith) l
 
-        crossing : (p : Pair) → Mem p (firstCrossed e f)
-            → Mem p (each (range 0 64) (firstAssigned e) ++ each (range 0 64) (firstCrossed e))
-        crossing p m = mem-right _ (each (range 0 64) (firstAssigned e)) (each (range 0 64) (firstCrossed e))
-            (each-in (range 0 64) (firstCrossed e) f p here-in m)
+        by : ℕ → List Pair
+        by way = cond (byWay way f e) (edgePair e f (way, 0) ∷ []) []
+
+        crossed-by : (way : ℕ) → Mem (edgePair e f (way, 0)) (firstCrossed e f)
+            → (p : Pair) × Mem p (each (range 0 64) (firstAssigned e) ++ each (range 0 64) (firstCrossed e))
+            × (p .second ≡ e .0) × (p .outcome ≡ e .1) × (p .first ≡ f)
+        crossed-by way m = (
+          edgePair e f (way, 0),
+          mem-right _ (each (range 0 64) (firstAssigned e)) (each (range 0 64) (firstCrossed e))
+              (each-in (range 0 64) (firstCrossed e) f _ here-in m),
+          refl,
+          refl,
+          refl,
+        )
 
     abbrev both-ways : ℕ → List Pair
     both-ways s = edgePairs (s, 1) ++ edgePairs (s, 2)

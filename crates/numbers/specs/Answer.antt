@@ -9,7 +9,7 @@ use Rattle.form.specs.Form.{when, judge, bodyOf, lay}
 use Rattle.form.specs.Answer.{accepted, numberOf, placeOf, writtenNumber, writtenPlace, written, heldAfter}
 use Rattle.counter.specs.declared.Counted.{Counted}
 use Rattle.counter.specs.Answer as Counter
-use Rattle.walk.specs.Answer as Walk
+use Rattle.plan.specs.Owed.{Values}
 use Rattle.entries.specs.declared.Entry.{Entry}
 use Rattle.sweep_steps.specs.Answer as Sweep
 use Rattle.sweep_steps.specs.declared.SweepAnswer.{SweepAnswer}
@@ -53,7 +53,7 @@ walkNumbers number place iterations weight bound walked =
     record { number = number; place = place; iterations = iterations; weight = weight; bound = bound; walked = walked }
 
 -- The full walk's, as its own definition has it
-abbrev pub walkValues : WalkNumbers → Walk.Values
+abbrev pub walkValues : WalkNumbers → Values
 walkValues answer =
     record {
       number = answer .number;
@@ -61,7 +61,7 @@ walkValues answer =
       iterations = answer .iterations;
       weight = answer .weight;
       bound = answer .bound;
-      walked = answer .walked;
+      keptOrWalked = answer .walked;
     }
 
 -- The conflict list's; an entry has 5 bytes
@@ -73,10 +73,10 @@ sweepNumbers number place iterations weight bound kept =
     record { number = number; place = place; iterations = iterations; weight = weight; bound = bound; kept = kept }
 
 -- The sweep's
-abbrev pub sweepSaid : SweepAnswer → Sweep.Values
+abbrev pub sweepSaid : SweepAnswer → Values
 sweepSaid answer = Sweep.said answer
 
-abbrev pub sweepValues : SweepNumbers → Sweep.Values
+abbrev pub sweepValues : SweepNumbers → Values
 sweepValues answer =
     record {
       number = answer .number;
@@ -84,7 +84,7 @@ sweepValues answer =
       iterations = answer .iterations;
       weight = answer .weight;
       bound = answer .bound;
-      kept = answer .kept;
+      keptOrWalked = answer .kept;
     }
 
 abbrev pub sweptOutcome : SweepNumbers → (route : List ℕ) → (table : List Entry) → Sweep.Outcome

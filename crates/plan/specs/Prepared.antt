@@ -42,6 +42,11 @@ pub data PreparedOf (form : List ℕ) (r : Prepared) : Type 0 where
   refused : Refuses form (r .number) (r .place) → (r .number ≡ 0 → ⊥) → r .count ≡ 0 → PreparedOf form r
   ready : r .number ≡ 0 → Start form (r .count) (r .iterations) (r .plan) → PreparedOf form r
 
+pub started : {form : List ℕ} {r : Prepared} → PreparedOf form r → r .number ≡ 0
+    → Start form (r .count) (r .iterations) (r .plan)
+started (refused why numbered empty) z = absurd (numbered z)
+started (ready n s) z = s
+
 -- ---- what is owed
 
 module _ {A : Type 0} (form : List ℕ) (refusal : (number place : ℕ) → A) (with : (count : ℕ) → A) where

@@ -18,7 +18,7 @@ use Rattle.roundtrip.specs.Front.{front, front-all}
 use Rattle.roundtrip.specs.Sound.{sound}
 use Rattle.theory.specs.Route.{Path, dearest, routeOn, stepCost, walked}
 use Rattle.theory.specs.Run.{Run, runCost}
-use Rattle.plan.specs.Owed.{Owed}
+use Rattle.plan.specs.Owed.{Owed, refusal}
 use Rattle.plan.specs.Owed.Owed.{no-form, no-count, counted}
 use Rattle.sweep_steps.specs.declared.SweepAnswer.the-variants.{Routed, Refused as Unswept}
 use Rattle.sweep_steps.specs.Answer as sweep
@@ -96,7 +96,7 @@ module _ (form : List ℕ) (a : judge form ≡ Accepted) (v : ℕ × Path)
   by-walk : (lent : List ℕ) (most k number place : ℕ) → 1 ≤ k → 64 ≤ length lent → (held : List ℕ) (short over : Bool)
       → ltb (length lent) (bodyOf form .count) ≡ short
       → (o : Option (ℕ × Path)) → o ≡ some v
-      → (walk.refusal number place, held)
+      → (refusal number place, held)
       ≡ cond short (walk.refused lent 42 (bodyOf form .count))
       (cond over (walk.refused lent 41 most) (walk.routed (bodyOf form) lent k o))
       → (number ≡ 41) × (place ≡ most)

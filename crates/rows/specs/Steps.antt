@@ -26,6 +26,7 @@ use Rattle.theory.specs.Steps.{wipes}
 use Rattle.theory.specs.Listing.{listing}
 use Rattle.theory.specs.Ties.{mark}
 use Rattle.rows.specs.declared.Side.{Side}
+use Rattle.theory.specs.PlanWays.{by-jump, by-fall}
 use Rattle.theory.specs.Plan.{testAt, touchedAt, deniedAt, againstAt, listedAt, IsWay, Planned}
 
 -- ---- a step as words
@@ -55,12 +56,6 @@ abbrev pub stepWords : (jumps falls : Side) (cost : ℕ) → Words → Words
 stepWords jumps falls cost u = (cost + u .0, (bitOr (u .1 .0) (jumps .left), bitOr (u .1 .1) (falls .left)))
 
 -- ---- what its bits say
-
-jump : IsWay 1
-jump = (omega arith, omega arith)
-
-fall : IsWay 2
-fall = (omega arith, omega arith)
 
 -- what is listed is an edge of a test
 listed-only : (l t w : Bool) → (l ≡ true → t ≡ true) → (l && not (t && w)) ≡ (not w && l)
@@ -196,27 +191,27 @@ module _ (body : Body) (g : Sound body) (plan : List ℕ) (fits : (k : ℕ) → 
   step-key k j f = ap₂ (λ c o. cond c none (some o))
       (sym (any-edge-words (body .count) 64 (g .few) (λ e. has k e && opposes body (b, way) e || withOwn body
       (b, way) k e && denies body b e) (hitsOf jump-side (k .0)) (hitsOf fall-side (k .1))
-      (hits-lt body g plan fits cost planned b way 1 inside v jump (k .0) j)
-      (hits-lt body g plan fits cost planned b way 2 inside v fall (k .1) f)
-      (hits-bit body g plan fits cost planned b way 1 inside v jump (k .0) j)
-      (hits-bit body g plan fits cost planned b way 2 inside v fall (k .1) f)
-      (hits-beyond body g plan fits cost planned b way 1 inside v jump (k .0) j)
-      (hits-beyond body g plan fits cost planned b way 2 inside v fall (k .1) f)))
+      (hits-lt body g plan fits cost planned b way 1 inside v by-jump (k .0) j)
+      (hits-lt body g plan fits cost planned b way 2 inside v by-fall (k .1) f)
+      (hits-bit body g plan fits cost planned b way 1 inside v by-jump (k .0) j)
+      (hits-bit body g plan fits cost planned b way 2 inside v by-fall (k .1) f)
+      (hits-beyond body g plan fits cost planned b way 1 inside v by-jump (k .0) j)
+      (hits-beyond body g plan fits cost planned b way 2 inside v by-fall (k .1) f)))
       (edges-words (body .count) 64 (g .few) (λ e. withOwn body (b, way) k e && not (wipes body b e) && listed
       (conflicts body) b e) (openedOf jump-side (k .0)) (openedOf fall-side (k .1))
-      (opened-lt body g plan fits cost planned b way 1 inside v jump (k .0) j)
-      (opened-lt body g plan fits cost planned b way 2 inside v fall (k .1) f)
-      (opened-bit body g plan fits cost planned b way 1 inside v jump (k .0) j)
-      (opened-bit body g plan fits cost planned b way 2 inside v fall (k .1) f)
-      (opened-beyond body g plan fits cost planned b way 1 inside v jump (k .0) j)
-      (opened-beyond body g plan fits cost planned b way 2 inside v fall (k .1) f))
+      (opened-lt body g plan fits cost planned b way 1 inside v by-jump (k .0) j)
+      (opened-lt body g plan fits cost planned b way 2 inside v by-fall (k .1) f)
+      (opened-bit body g plan fits cost planned b way 1 inside v by-jump (k .0) j)
+      (opened-bit body g plan fits cost planned b way 2 inside v by-fall (k .1) f)
+      (opened-beyond body g plan fits cost planned b way 1 inside v by-jump (k .0) j)
+      (opened-beyond body g plan fits cost planned b way 2 inside v by-fall (k .1) f))
 
   pub step-words : (w : ℕ) → w ≡ cost b way → (u : Words) → stepWords jump-side fall-side w u ≡ growWords cost
       (b, way) u
   step-words w e u = λ i. (
     e i + u .0,
     (
-      left-marks body g plan fits cost planned b way 1 inside v jump (u .1 .0) i,
-      left-marks body g plan fits cost planned b way 2 inside v fall (u .1 .1) i,
+      left-marks body g plan fits cost planned b way 1 inside v by-jump (u .1 .0) i,
+      left-marks body g plan fits cost planned b way 2 inside v by-fall (u .1 .1) i,
     ),
   )

@@ -14,34 +14,14 @@ use Rattle.form.specs.Conflict.{conflicts}
 use Rattle.theory.specs.Route.{Path, Side, dearest, routeOn, boundOf, routeBytes}
 use Rattle.theory.specs.Row as theory
 use Rattle.theory.specs.Row.{row, filled, kept, crowded}
-use Rattle.plan.specs.Owed.{Owed}
+use Rattle.plan.specs.Owed.{Owed, Values, refusal, answered}
 use Rattle.entries.specs.declared.Entry.{Entry}
 use Rattle.sweep_steps.specs.declared.SweepAnswer.{SweepAnswer}
 use Rattle.sweep_steps.specs.declared.SweepAnswer.the-variants.{Routed, Refused}
 
--- ---- an answer in document 01's numbers: number 0 is no refusal; of a refusal every other number but the place is
--- zero
-
-pub record Values : Type 0 where
-  pub number : ℕ
-  pub place : ℕ
-  pub iterations : ℕ
-  pub weight : ℕ
-  pub bound : ℕ
-  pub kept : ℕ
-
-abbrev pub refusal : (number place : ℕ) → Values
-refusal number place = record { number = number; place = place; iterations = 0; weight = 0; bound = 0; kept = 0 }
-
+-- in document 01's numbers
 abbrev pub said : SweepAnswer → Values
-said (Routed iterations weight bound kept) = record {
-  number = 0;
-  place = 0;
-  iterations = iterations;
-  weight = weight;
-  bound = bound;
-  kept = kept;
-}
+said (Routed iterations weight bound kept) = answered iterations weight bound kept
 said (Refused number place) = refusal number place
 
 -- ---- the answer, and what the lent bytes and the lent table hold after it
@@ -88,14 +68,7 @@ module _ (body : Body) (side : Side) where
     abbrev pub routed : Option (ℕ × Path) → Outcome
     routed none = record { values = refusal 43 0; route = route; table = tableWith rowsOn 0 (body .count) table }
     routed (some v) = record {
-      values = record {
-        number = 0;
-        place = 0;
-        iterations = count;
-        weight = v .0;
-        bound = boundOf count (v .0);
-        kept = kept body (side .cost) (side .prefers);
-      };
+      values = answered count (v .0) (boundOf count (v .0)) (kept body (side .cost) (side .prefers));
       route = routeBytes body (v .1) ++ drop (body .count) route;
       table = tableWith rowsOn 0 (body .count) table;
     }

@@ -9,33 +9,13 @@ use lib.ListN.{length, drop}
 use Rattle.form.specs.declared.Body.{Body}
 use Rattle.form.specs.Form.{bodyOf}
 use Rattle.theory.specs.Route.{Path, Side, dearest, routeOn, boundOf, routeBytes, walked}
-use Rattle.plan.specs.Owed.{Owed}
+use Rattle.plan.specs.Owed.{Owed, Values, refusal, answered}
 use Rattle.walk.specs.declared.WalkAnswer.{WalkAnswer}
 use Rattle.walk.specs.declared.WalkAnswer.the-variants.{Walked, Refused}
 
--- ---- an answer in document 01's numbers
-
--- Number 0 is no refusal; of a refusal every other number but the place is zero.
-pub record Values : Type 0 where
-  pub number : ℕ
-  pub place : ℕ
-  pub iterations : ℕ
-  pub weight : ℕ
-  pub bound : ℕ
-  pub walked : ℕ
-
-abbrev pub refusal : (number place : ℕ) → Values
-refusal number place = record { number = number; place = place; iterations = 0; weight = 0; bound = 0; walked = 0 }
-
+-- in document 01's numbers
 abbrev pub said : WalkAnswer → Values
-said (Walked iterations weight bound walked) = record {
-  number = 0;
-  place = 0;
-  iterations = iterations;
-  weight = weight;
-  bound = bound;
-  walked = walked;
-}
+said (Walked iterations weight bound walked) = answered iterations weight bound walked
 said (Refused number place) = refusal number place
 
 -- ---- what is owed: the answer, and what the lent bytes hold after it
@@ -50,17 +30,8 @@ refused lent number place = (refusal number place, lent)
 -- 43 where there is no conflict-free route. The route's bytes stand first; those past them are unchanged.
 abbrev pub routed : Body → List ℕ → (count : ℕ) → Option (ℕ × Path) → Outcome
 routed body lent count none = refused lent 43 0
-routed body lent count (some v) = (
-  record {
-    number = 0;
-    place = 0;
-    iterations = count;
-    weight = v .0;
-    bound = boundOf count (v .0);
-    walked = walked body;
-  },
-  routeBytes body (v .1) ++ drop (body .count) lent,
-)
+routed body lent count (some v) =
+    (answered count (v .0) (boundOf count (v .0)) (walked body), routeBytes body (v .1) ++ drop (body .count) lent)
 
 -- 42 with the bytes needed, then 41 with the budget, exactly when walked exceeds it, and 43 last.
 abbrev pub walkOutcome : Body → Side → (budget : ℕ) → List ℕ → (count : ℕ) → Outcome

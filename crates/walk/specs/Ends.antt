@@ -21,8 +21,9 @@ use Rattle.theory.specs.Best.{best-leads}
 use Rattle.theory.specs.Range.{weight-most}
 use Rattle.theory.specs.Plan.{costLimit, PlanOf}
 use Rattle.plan.specs.declared.Prepared.{Prepared}
+use Rattle.plan.specs.Owed.{answered}
 use Rattle.plan.specs.RouteWords.{bytesOf}
-use Rattle.plan.specs.Prepared.{Start, PreparedOf, refusal-owed}
+use Rattle.plan.specs.Prepared.{PreparedOf, refusal-owed}
 use Rattle.plan.specs.Prepared.PreparedOf.{refused as not-ready, ready}
 use Rattle.walk.specs.declared.WalkAnswer.{WalkAnswer}
 use Rattle.walk.specs.declared.WalkAnswer.the-variants.{Refused}
@@ -80,17 +81,7 @@ module _ (body : Body) (side : Side) (budget : ℕ) (found : List ℕ)
 
     pub with-route : Sound body → getD found 0 0 ≤ budget → getD found 1 0 ≡ 1 → (held : List ℕ)
         → held ≡ bytesOf n (getD found 3 0) (getD found 4 0) ++ drop n lent
-        → _≡_ {A = Outcome} (
-          record {
-            number = 0;
-            place = 0;
-            iterations = count;
-            weight = getD found 2 0;
-            bound = boundOf count (getD found 2 0);
-            walked = getD found 0 0;
-          },
-          held,
-        )
+        → _≡_ {A = Outcome} (answered count (getD found 2 0) (boundOf count (getD found 2 0)) (getD found 0 0), held)
         (walkOutcome body side budget lent count)
     unfolding bytesOf
     with-route g l a held h =
@@ -102,17 +93,7 @@ module _ (body : Body) (side : Side) (budget : ℕ) (found : List ℕ)
         ∙ ap (λ (l : List ℕ). l ++ drop (body .count) lent)
         (sym (bytes-words body (g .onward) (v .1) (best-leads body (side .cost) (side .prefers) v e .0))) in
         rw (enough, sym (ends .0) ∙ f, e)
-        (λ i. (
-          record {
-            number = 0;
-            place = 0;
-            iterations = count;
-            weight = w i .0;
-            bound = boundOf count (w i .0);
-            walked = ends .1 f i .0;
-          },
-          bytes i,
-        ))
+        (λ i. (answered count (w i .0) (boundOf count (w i .0)) (ends .1 f i .0), bytes i))
 
 pub short : (body : Body) (side : Side) (n : ℕ) → body .count ≡ n → (budget : ℕ) (lent : List ℕ) (count : ℕ)
     → length lent < n → refused lent 42 n ≡ walkOutcome body side budget lent count
@@ -133,11 +114,6 @@ weight-few prefers plan count budget found p s l a =
     omega (arith, ap (λ (u : Words). u .0) w, p .range .all)
 
 -- ---- with the start
-
-pub started : (form : List ℕ) (r : Prepared) → PreparedOf form r → r .number ≡ 0
-    → Start form (r .count) (r .iterations) (r .plan)
-started form r (not-ready why numbered empty) z = absurd (numbered z)
-started form r (ready n s) z = s
 
 pub not-started : (form : List ℕ) (budget : ℕ) (lent : List ℕ) (r : Prepared) → PreparedOf form r → (r .number ≡ 0 → ⊥)
     → {x : WalkAnswer} → x ≡ Refused (r .number) (r .place)

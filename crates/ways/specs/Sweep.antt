@@ -18,12 +18,12 @@ use Rattle.form.specs.Form.{judge, bodyOf}
 use Rattle.theory.specs.Route.{Path, dearest, routeOn, stepCost, boundOf}
 use Rattle.theory.specs.Row.{crowded}
 use Rattle.theory.specs.Run.{Run, runCost}
-use Rattle.plan.specs.Owed.{CountOf}
+use Rattle.plan.specs.Owed.{CountOf, Values, refusal}
 use Rattle.plan.specs.Accepted.{owed-once}
 use Rattle.entries.specs.declared.Entry.{Entry}
 use Rattle.sweep_steps.specs.declared.SweepAnswer.{SweepAnswer}
 use Rattle.sweep_steps.specs.declared.SweepAnswer.the-variants.{Routed, Refused}
-use Rattle.sweep_steps.specs.Answer.{Values, refusal, said, Outcome, outcomeOf, refused, routed, swept, sweepOutcome, SweepOwed, ownTable, OwnTableOwed}
+use Rattle.sweep_steps.specs.Answer.{said, Outcome, outcomeOf, refused, routed, swept, sweepOutcome, SweepOwed, ownTable, OwnTableOwed}
 use Rattle.ways.specs.Answered.{Answered, answered-sound, Call, no-refusal, gives}
 
 module _ (form : List ℕ) (lent : List ℕ) (table : List Entry) where
@@ -143,7 +143,7 @@ module _ (form : List ℕ) (lent : List ℕ) (table : List Entry) where
       → SweepOwed form lent table (outcomeOf a held rows)
       → SweepOwed form lent table (outcomeOf b held′ rows′) → a ≡ b
   same-answer (Routed i w n k) (Routed j x m l) held held′ rows rows′ e o p =
-      λ t. Routed (e t .iterations) (e t .weight) (e t .bound) (e t .kept)
+      λ t. Routed (e t .iterations) (e t .weight) (e t .bound) (e t .keptOrWalked)
   same-answer (Routed i w n k) (Refused m q) held held′ rows rows′ e o p = absurd (mixed i w n k m q held′ rows′ e p)
   same-answer (Refused m q) (Routed i w n k) held held′ rows rows′ e o p =
       absurd (mixed i w n k m q held rows (sym e) o)

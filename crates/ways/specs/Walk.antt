@@ -16,12 +16,12 @@ use Rattle.form.specs.declared.Verdict.the-variants.{Accepted}
 use Rattle.form.specs.Form.{judge, bodyOf}
 use Rattle.theory.specs.Route.{Path, dearest, routeOn, stepCost, boundOf, walked}
 use Rattle.theory.specs.Run.{Run, runCost}
-use Rattle.plan.specs.Owed.{CountOf}
+use Rattle.plan.specs.Owed.{CountOf, Values, refusal}
 use Rattle.plan.specs.Accepted.{owed-once}
 use Rattle.walk.specs.declared.WalkAnswer.{WalkAnswer}
 use Rattle.walk.specs.declared.WalkAnswer.the-variants.{Walked, Refused}
-use Rattle.walk.specs.Answer.{Values, refusal, said, Outcome, refused, routed, walkOutcome, WalkOwed}
-use Rattle.ways.specs.Answered.{Answered, answered-sound, Call, Counts, no-refusal, gives}
+use Rattle.walk.specs.Answer.{said, Outcome, refused, routed, walkOutcome, WalkOwed}
+use Rattle.ways.specs.Answered.{Answered, answered-sound, Call, no-refusal, gives}
 
 module _ (form : List ℕ) (budget : ℕ) (lent : List ℕ) where
   abbrev body : Body
@@ -114,7 +114,7 @@ module _ (form : List ℕ) (budget : ℕ) (lent : List ℕ) where
   same-answer : (a b : WalkAnswer) (held kept : List ℕ) → said a ≡ said b → WalkOwed form budget lent (said a, held)
       → WalkOwed form budget lent (said b, kept) → a ≡ b
   same-answer (Walked i w n k) (Walked j x m l) held kept e o p =
-      λ t. Walked (e t .iterations) (e t .weight) (e t .bound) (e t .walked)
+      λ t. Walked (e t .iterations) (e t .weight) (e t .bound) (e t .keptOrWalked)
   same-answer (Walked i w n k) (Refused m q) held kept e o p = absurd (mixed i w n k m q kept e p)
   same-answer (Refused m q) (Walked i w n k) held kept e o p = absurd (mixed i w n k m q held (sym e) o)
   same-answer (Refused n p) (Refused m q) held kept e o f = λ t. Refused (e t .number) (e t .place)

@@ -1,6 +1,7 @@
 -- `desk::somniaret_sweep` meets its contract: the answer of the sweep over a table of its own, in numbers.
 use mathlib.Core.Path.{subst, sym}
-use Rattle.sweep_steps.specs.Answer.{Values, SweepOwed, ownTable}
+use Rattle.plan.specs.Owed.{Values}
+use Rattle.sweep_steps.specs.Answer.{SweepOwed, ownTable}
 use borrow.Author.Needs.{needs}
 use Rattle.desk.proofs.somniaret_sweep.Statement.{statement}
 use Rattle.desk.proofs.somniaret_sweep.Tie as tie

@@ -40,7 +40,8 @@ use denote.Signature.{plain}
 use Rattle.sweep_steps.proofs.SweepAnswer as S
 use Rattle.sweep_steps.proofs.SweepAnswer.Laws as S′
 use Rattle.sweep_steps.specs.declared.SweepAnswer.{SweepAnswer}
-use Rattle.sweep_steps.specs.Answer.{Values, outcomeOf, SweepOwed}
+use Rattle.plan.specs.Owed.{Values}
+use Rattle.sweep_steps.specs.Answer.{outcomeOf, SweepOwed}
 use Rattle.entries.specs.declared.Entry.{Entry}
 use Rattle.numbers.specs.declared.SweepNumbers.{SweepNumbers}
 use Rattle.numbers.specs.Answer.{sweepValues, sweepSaid, sweptOutcome}

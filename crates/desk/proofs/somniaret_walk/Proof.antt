@@ -1,6 +1,7 @@
 -- `desk::somniaret_walk` meets its contract: the walk's own answer, in numbers.
 use mathlib.Core.Path.{subst, sym}
-use Rattle.walk.specs.Answer.{Values, WalkOwed}
+use Rattle.plan.specs.Owed.{Values}
+use Rattle.walk.specs.Answer.{WalkOwed}
 use borrow.Author.Needs.{needs}
 use Rattle.desk.proofs.somniaret_walk.Statement.{statement}
 use Rattle.desk.proofs.somniaret_walk.Tie as tie

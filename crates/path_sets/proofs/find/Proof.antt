@@ -1,34 +1,30 @@
 -- `path_sets::find` meets its contract. What the called functions say of one another is put together by `found-is`.
+use Rattle.sets.specs.declared.Local.{Local}
+use Rattle.sets.specs.Local.{Worded}
+use Rattle.path_sets.specs.Parts.{Ways}
 use Rattle.path_sets.specs.Finding.{found-is}
 use borrow.Author.Needs.{needs}
 use Rattle.path_sets.proofs.find.Statement.{statement}
 use Rattle.path_sets.proofs.find.Tie as tie
 
+-- what the words of the blocks say of the ways out of them
+ways : {l : Local} → Worded l → Ways (l .targets .jump) (l .targets .fall) (l .touched)
+ways w = record {
+  jumps = w .jumps;
+  falls = w .falls;
+  touches = w .touched;
+  jumps-above = w .jumps-above;
+  falls-above = w .falls-above;
+}
+
 firsts-by-requires : tie.Need-firsts-by-requires
 firsts-by-requires c κs =
-    let w = c .before .before .before .before .before .before .before .pre in (
-      record {
-        jumps = w .jumps;
-        falls = w .falls;
-        touches = w .touched;
-        jumps-above = w .jumps-above;
-        falls-above = w .falls-above;
-      },
-      (w .denied .0, w .jumping),
-    )
+    let w = c .before .before .before .before .before .before .before .pre in (ways w, (w .denied .0, w .jumping))
 
 firsts-by-requires-2 : tie.Need-firsts-by-requires-2
 firsts-by-requires-2 c κs =
-    let w = c .before .before .before .before .before .before .before .before .pre in (
-      record {
-        jumps = w .jumps;
-        falls = w .falls;
-        touches = w .touched;
-        jumps-above = w .jumps-above;
-        falls-above = w .falls-above;
-      },
-      (w .denied .1, w .falling),
-    )
+    let w = c .before .before .before .before .before .before .before .before .pre in
+    (ways w, (w .denied .1, w .falling))
 
 returns : tie.Need-returns
 returns c =

@@ -4,7 +4,8 @@ use Rattle.roundtrip.specs.Sound.{sound}
 use Rattle.theory.specs.Route.{stepCost, dearest}
 use Rattle.plan.specs.Prepared.{start-owed, start-plan, start-few}
 use Rattle.walk.specs.Answer.{refused, walkOutcome}
-use Rattle.walk.specs.Ends.{started, not-started}
+use Rattle.plan.specs.Prepared.{started}
+use Rattle.walk.specs.Ends.{not-started}
 use borrow.Author.Needs.{needs}
 use Rattle.walk.proofs.walk.Statement.{statement}
 use Rattle.walk.proofs.walk.Tie as tie
@@ -19,7 +20,7 @@ walk-planned-requires : tie.Need-walk-planned-requires
 walk-planned-requires c κs =
     let form = c .before .before .before .before .before .before .before .before .args .form .now in
     let ready = c .before .before .before .before .before .prepare in
-    let s = started form (ready .result) (ready .ensures) (c .before .before .before .if1 .left) in (
+    let s = started (ready .ensures) (c .before .before .before .if1 .left) in (
       start-plan form _ _ _ s,
       (
         start-few form _ _ _ s,
@@ -32,7 +33,7 @@ returns-2 c =
     let a = c .before .before .before .before .before .before .before .before .before .before .before .args in
     let form = a .form .now in
     let ready = c .before .before .before .before .before .before .before .before .prepare in
-    let s = started form (ready .result) (ready .ensures)
+    let s = started (ready .ensures)
     (c .before .before .before .before .before .before .if1 .left) in
     start-owed form _ _ _ s (refused (a .route .now))
     (walkOutcome (bodyOf form) (dearest (bodyOf form)) (a .budget) (a .route .now)) _

@@ -1,7 +1,7 @@
--- `routes::route::byte_of` meets its contract.
+-- `byte_of` meets its contract.
 use mathlib.Core.Path.{_≡_, sym, _∙_}
 use mathlib.Core.Bool.{false}
-use Prim.Native.Nat.{suc}
+use Prim.Native.Nat.{ℕ, suc, _+_}
 use native.Mathlib.Numerals.{add-one}
 use native.Mathlib.Omega.{arith}
 use borrow.Author.Tests.{eq-eqb, ne-eqb}
@@ -13,34 +13,26 @@ use Rattle.plan.proofs.route.byte_of.Tie as tie
 returns : tie.Need-returns
 returns c = rw (eq-eqb (suc (c .before .args .b)) (c .before .args .count) (omega arith))
 
+-- a block that is not the last
+not-last : (b count : ℕ) → (b + 1 ≡ count → ⊥) → eqb (suc b) count ≡ false
+not-last b count n = ne-eqb (suc b) count (λ e. n (add-one b ∙ e))
+
 returns-2 : tie.Need-returns-2
 returns-2 c =
-    let start = c .before .before .before in
-    let inner : eqb (suc (start .args .b)) (start .args .count) ≡ false =
-    ne-eqb (suc (start .args .b)) (start .args .count)
-    (λ e. c .before .before .if1 .left (add-one (start .args .b) ∙ e)) in
-    rw (inner, sym (c .before .has .ensures) ∙ c .if2 .taken)
+    rw (not-last _ _ (c .before .before .if1 .left), sym (c .before .has .ensures) ∙ c .if2 .taken)
 
 returns-3 : tie.Need-returns-3
 returns-3 c =
-    let start = c .before .before .before .before .before in
-    let inner : eqb (suc (start .args .b)) (start .args .count) ≡ false =
-    ne-eqb (suc (start .args .b)) (start .args .count)
-    (λ e. c .before .before .before .before .if1 .left (add-one (start .args .b) ∙ e)) in
     rw (
-      inner,
+      not-last _ _ (c .before .before .before .before .if1 .left),
       sym (c .before .before .before .has .ensures) ∙ c .before .before .if2 .left,
       sym (c .before .has2 .ensures) ∙ c .if3 .taken,
     )
 
 returns-4 : tie.Need-returns-4
 returns-4 c =
-    let start = c .before .before .before .before .before in
-    let inner : eqb (suc (start .args .b)) (start .args .count) ≡ false =
-    ne-eqb (suc (start .args .b)) (start .args .count)
-    (λ e. c .before .before .before .before .if1 .left (add-one (start .args .b) ∙ e)) in
     rw (
-      inner,
+      not-last _ _ (c .before .before .before .before .if1 .left),
       sym (c .before .before .before .has .ensures) ∙ c .before .before .if2 .left,
       sym (c .before .has2 .ensures) ∙ c .if3 .left,
     )
