@@ -1,4 +1,5 @@
--- A function's locals, all at once: they are allocated in one step and freed in one step, and what lets them end is one
+-- A function's locals, all at once: they are allocated in one step and freed in one step, and what lets them end is
+-- one
 -- entry of the context, so that a walk handles one entry a local and not two. It says nothing of the crate.
 -- rooms E, ends E    the room of each local of the environment E, in their order; what lets each of them end
 -- Places ls, envOf   where the locals ls are put, and the environment that they then are
@@ -48,7 +49,8 @@ module _ {M : Type 1} (𝓤 : URA M) (H : Heap 𝓤) where
         (sep 𝓤 X (sep 𝓤 (H .room (tyOf 𝓤 H l) b zero) (H .dies (tyOf 𝓤 H l) b))) (λ bs. one b bs)))
       where
         one : (b : ℕ) (bs : Places ls) → ent 𝓤 (sep 𝓤 (⋆ 𝓤 H A (rooms (envOf ls bs))) (sep 𝓤 (ends (envOf ls bs))
-            (sep 𝓤 X (sep 𝓤 (H .room (tyOf 𝓤 H l) b zero) (H .dies (tyOf 𝓤 H l) b))))) (Kt ((tyOf 𝓤 H l, b) ∷ envOf ls bs))
+            (sep 𝓤 X (sep 𝓤 (H .room (tyOf 𝓤 H l) b zero) (H .dies (tyOf 𝓤 H l) b))))) (Kt ((tyOf 𝓤 H l, b) ∷ envOf ls
+            bs))
         one b bs =
             via 𝓤 (sep 𝓤 (⋆ 𝓤 H A (‵ (froom (tyOf 𝓤 H l) b zero) ∷ rooms (envOf ls bs)))
             (sep 𝓤 (sep 𝓤 (H .dies (tyOf 𝓤 H l) b) (ends (envOf ls bs))) X))
@@ -56,7 +58,8 @@ module _ {M : Type 1} (𝓤 : URA M) (H : Heap 𝓤) where
             (raw X ⊛ (‵ (froom (tyOf 𝓤 H l) b zero) ⊛ ‵ (fdies (tyOf 𝓤 H l) b))) ∷ []) ∵
             move ! (2 ∷ []) $ split ! $ move ! (1 ∷ []) $ split ! $ move ! (0 ∷ 3 ∷ []) $
             use2 W (raw (⋆ 𝓤 H A (‵ (froom (tyOf 𝓤 H l) b zero) ∷ rooms (envOf ls bs))))
-            (push 𝓤 H A (‵ (froom (tyOf 𝓤 H l) b zero)) (rooms (envOf ls bs))) $ frame ! $ move ! (0 ∷ 2 ∷ []) $ join ! $
+            (push 𝓤 H A (‵ (froom (tyOf 𝓤 H l) b zero)) (rooms (envOf ls bs))) $ frame ! $ move ! (0 ∷ 2 ∷ []) $ join !
+            $
             frame ! $ done !) (k (b, bs))
 
     free-from : (E : Env 𝓤 H) (G : SProp 𝓤) → ent 𝓤 (sep 𝓤 (⋆ 𝓤 H A (rooms E)) (sep 𝓤 (ends E) G))
