@@ -9,6 +9,7 @@ use native.Mathlib.Omega.{arith}
 use native.Mathlib.Nat.{add-zero, add-suc, zero-add, suc-add, lt-suc-self}
 use native.Mathlib.Numerals.{add-one}
 use mathlib.Core.Bool.{Bool}
+use mathlib.Core.Option.{some as has, none}
 use mathlib.Core.List.{[], _∷_, List}
 use lib.ListN.{length, set}
 use lib.WfN.{Nat·lt-wfRel}
@@ -55,7 +56,7 @@ use denote.Signature.{plain}
 use Rattle.rows.specs.declared.Entry.{Entry}
 use Rattle.rows.specs.Structs.{structAt}
 use Rattle.sweep.specs.Table.{stored, stored-none, stored-more, stored-length}
-use Rattle.sweep.proofs.Locals.{rooms, ends, allocs-all, free-all}
+use Rattle.sweep.proofs.Locals.{ends, allocs-all, free-all}
 use Rattle.rows.proofs.Entry as T
 use Rattle.rows.proofs.Entry.Laws as T′
 use Rattle.rows.proofs.entry_at as entry-at
@@ -310,10 +311,10 @@ module _ {M : Type 1} (𝓤 : URA M) (H : Heap 𝓤) (A : Atoms 𝓤) (W : Given
           },
         )) $
         move ! (0 ∷ 12 ∷ 13 ∷ 14 ∷ []) $ closes-slice ! tt R ys zs (stored-length ys start ws n) b o $
-        returns ! (look ! 3 refl) $ forget ! 3 refl $ forget ! 4 refl $ forget ! 5 refl $ forget ! 6 refl $ forget ! 7
-        refl $ forget ! 8 refl $ forget ! 10 refl $
+        returns ! (look ! 3 refl) $
         keep ! (3 ∷ 4 ∷ 5 ∷ 6 ∷ 7 ∷ 8 ∷ 9 ∷ 10 ∷ 11 ∷ 12 ∷ 13 ∷ 16 ∷ 0 ∷ 1 ∷ 2 ∷ 14 ∷ 15 ∷ []) $ by ! (free-all 𝓤 H A W
-        En Had (Post (vint w64 n)) exits)
+        En (has _ ∷ has _ ∷ has _ ∷ has _ ∷ has _ ∷ has _ ∷ none ∷ has _ ∷ none ∷ none ∷ none ∷ []) Had
+        (Post (vint w64 n)) exits)
 
     below : (t k : ℕ) → suc k + t ≡ n → ent 𝓤 (⋆ 𝓤 H A (At (suc k))) (Below (suc t))
     below t k e =

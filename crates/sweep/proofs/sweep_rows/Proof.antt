@@ -1,6 +1,5 @@
 -- `sweep::sweep_rows` meets its contract: a walk of its MIR, by hand, since it has a slice of structs. The three rows,
--- its locals, are in memory all along, whatever is in them. The loop's invariant is `Driven` of specs/Driven; a turn
--- is
+-- its locals, are in memory all along, whatever is in them. The loop's invariant is `Driven` of specs/Driven; a turn is
 -- `sources_of`, `fetch` twice, `make`, `store` and `following_of`, with the table and the rows lent for each call. The
 -- measure is the blocks to come. Rests on specs/Turn, specs/Driven, proofs/Locals, Fetching, Making and Storing, and
 -- the
@@ -8,7 +7,8 @@
 use mathlib.Core.Path.{_≡_, refl, sym, ap, subst, _∙_}
 use Prim.Native.Nat.{ℕ, _*_, _-_, _<_, _≤_, _^_}
 use mathlib.Core.Bool.{Bool, true, false}
-use mathlib.Core.List.{[], _∷_, List}
+use mathlib.Core.List.{[], _∷_, _++_, List}
+use mathlib.Core.Option.{some as has, none}
 use lib.ListN.{length, getD, replicate}
 use lib.Dec.{lit<}
 use lib.WfN.{Nat·lt-wfRel}
@@ -64,7 +64,7 @@ use Rattle.sweep.specs.declared.Built.{Built}
 use Rattle.sweep.specs.Table.{fetched, fetched-length, stored, stored-length}
 use Rattle.sweep.specs.Turn.{sourcesOf, TurnReady, turnedBy, jump-asked, fall-asked, make-asked, store-asked, turn-made}
 use Rattle.sweep.specs.Driven.{started, following, finished, left, Driven, driven-start, turn-ready, lengths-size, driven-more, left-less}
-use Rattle.sweep.proofs.Locals.{ends, allocs-all, free-all}
+use Rattle.sweep.proofs.Locals.{rooms, ends, allocs-all, spent-all, free-all}
 use Rattle.sweep.proofs.Lent.{arrayTy, repeated-length, repeated-typed, repeated-out, array-in}
 use Rattle.sweep.proofs.Fetching.{Fetch, fetches}
 use Rattle.sweep.proofs.Storing.{Store, stores}
@@ -365,31 +365,31 @@ module _ {M : Type 1} (𝓤 : URA M) (H : Heap 𝓤) (A : Atoms 𝓤) (W : Given
         (l₀ l₁ l₂ l₃ l₄ l₅ l₆ l₇ l₈ l₉ l₁₀ l₁₁ l₁₂ l₁₃ l₁₄ l₁₅ l₁₆ l₁₇ l₁₈ l₁₉ l₂₀ l₂₁ l₂₂ l₂₃ l₂₄ l₂₅ l₂₆ l₂₇ l₂₈ l₂₉
         : ℕ) where
       -- _0 the result; plan, count, table; _4, _5, _6 the rows; _7 the drive, _8 the sources, _9 what is made, _10 the
-      -- test, _11 a number; a pointer and a slice each: _12, _13 the table, _14, _15 the first row; _16, _17 the
-      -- table,
+      -- test, _11 a number; a pointer and a slice each: _12, _13 the table, _14, _15 the first row; _16, _17 the table,
       -- _18, _19 the second row; _20, _21 and _22, _23 the rows to read, _24, _25 the row to make; _26, _27 the table,
       -- _28, _29 the row to store
+      abbrev Temps : Env 𝓤 H
+      Temps =
+          (sourcesTy, l₈) ∷ (builtTy, l₉) ∷ (tyBool, l₁₀) ∷ (word, l₁₁) ∷ (ptrTy, l₁₂) ∷ (lentTy, l₁₃) ∷
+          (rowPtrTy, l₁₄) ∷ (rowTy, l₁₅) ∷ (ptrTy, l₁₆) ∷ (lentTy, l₁₇) ∷ (rowPtrTy, l₁₈) ∷ (rowTy, l₁₉) ∷
+          (readPtrTy, l₂₀) ∷ (readTy, l₂₁) ∷ (readPtrTy, l₂₂) ∷ (readTy, l₂₃) ∷ (rowPtrTy, l₂₄) ∷ (rowTy, l₂₅) ∷
+          (ptrTy, l₂₆) ∷ (lentTy, l₂₇) ∷ (readPtrTy, l₂₈) ∷ (readTy, l₂₉) ∷ []
+
       abbrev En : Env 𝓤 H
       En =
           (sweptTy, l₀) ∷ (planTy, l₁) ∷ (word, l₂) ∷ (tabTy, l₃) ∷ (wordsTy, l₄) ∷ (wordsTy, l₅) ∷ (wordsTy, l₆) ∷
-          (driveTy, l₇) ∷ (sourcesTy, l₈) ∷ (builtTy, l₉) ∷ (tyBool, l₁₀) ∷ (word, l₁₁) ∷ (ptrTy, l₁₂) ∷
-          (lentTy, l₁₃) ∷ (rowPtrTy, l₁₄) ∷ (rowTy, l₁₅) ∷ (ptrTy, l₁₆) ∷ (lentTy, l₁₇) ∷ (rowPtrTy, l₁₈) ∷
-          (rowTy, l₁₉) ∷ (readPtrTy, l₂₀) ∷ (readTy, l₂₁) ∷ (readPtrTy, l₂₂) ∷ (readTy, l₂₃) ∷ (rowPtrTy, l₂₄) ∷
-          (rowTy, l₂₅) ∷ (ptrTy, l₂₆) ∷ (lentTy, l₂₇) ∷ (readPtrTy, l₂₈) ∷ (readTy, l₂₉) ∷ []
+          (driveTy, l₇) ∷ Temps
 
       -- the drive stands at `at`, the table is ts, and the rows have the words f, g and m in them
-      abbrev At : Drive → List Entry → List ℕ → List ℕ → List ℕ → List (Item 𝓤)
-      At at ts f g m =
+      abbrev Kept : Drive → List Entry → List ℕ → List ℕ → List ℕ → List (Item 𝓤)
+      Kept at ts f g m =
           ‵ (Own₁ ts (length lent)) ∷ ‵ Own₀ ∷ ‵ (flft κ₀ q₀) ∷ ‵ (flft κ₁ q₁) ∷ ‵ (Words f l₄) ∷ ‵ (Words g l₅) ∷
           ‵ (Words m l₆) ∷ ‵ (froom sweptTy l₀ 0) ∷ ‵ (fat fullShare planTy l₁ 0 s₀) ∷
           ‵ (fat fullShare word l₂ 0 (vint w64 count)) ∷ ‵ (fat fullShare tabTy l₃ 0 s₁) ∷
-          ‵ (fat fullShare driveTy l₇ 0 (drive-val at)) ∷ ‵ (froom sourcesTy l₈ 0) ∷ ‵ (froom builtTy l₉ 0) ∷
-          ‵ (froom tyBool l₁₀ 0) ∷ ‵ (froom word l₁₁ 0) ∷ ‵ (froom ptrTy l₁₂ 0) ∷ ‵ (froom lentTy l₁₃ 0) ∷
-          ‵ (froom rowPtrTy l₁₄ 0) ∷ ‵ (froom rowTy l₁₅ 0) ∷ ‵ (froom ptrTy l₁₆ 0) ∷ ‵ (froom lentTy l₁₇ 0) ∷
-          ‵ (froom rowPtrTy l₁₈ 0) ∷ ‵ (froom rowTy l₁₉ 0) ∷ ‵ (froom readPtrTy l₂₀ 0) ∷ ‵ (froom readTy l₂₁ 0) ∷
-          ‵ (froom readPtrTy l₂₂ 0) ∷ ‵ (froom readTy l₂₃ 0) ∷ ‵ (froom rowPtrTy l₂₄ 0) ∷ ‵ (froom rowTy l₂₅ 0) ∷
-          ‵ (froom ptrTy l₂₆ 0) ∷ ‵ (froom lentTy l₂₇ 0) ∷ ‵ (froom readPtrTy l₂₈ 0) ∷ ‵ (froom readTy l₂₉ 0) ∷
-          raw (ends 𝓤 H En) ∷ []
+          ‵ (fat fullShare driveTy l₇ 0 (drive-val at)) ∷ raw (ends 𝓤 H En) ∷ []
+
+      abbrev At : Drive → List Entry → List ℕ → List ℕ → List ℕ → List (Item 𝓤)
+      At at ts f g m = rooms 𝓤 H Temps ++ Kept at ts f g m
 
       abbrev Good : Drive → List Entry → List ℕ → List ℕ → List ℕ → Type 0
       Good at ts f g m = (Driven plan count lent at ts × Is D.the-row at (drive-val at ∷ [])) ×
@@ -482,29 +482,28 @@ module _ {M : Type 1} (𝓤 : URA M) (H : Heap 𝓤) (A : Atoms 𝓤) (W : Given
 
             less : (next : Drive) → next ≡ following at (z .1 .held) → left next < left at
             less next en = subst (λ (y : Drive). left y < left at) (sym en)
-                (left-less plan count lent fits of enough at ts d goes-on (table-then z) (z .1 .held) table-size
-                turned)
+                (left-less plan count lent fits of enough at ts d goes-on (table-then z) (z .1 .held) table-size turned)
 
           more : (X : SProp 𝓤) → ((z : State) → GoodState z → left (z .0) < left at → ent 𝓤 (⋆ 𝓤 H A (AtState z)) X)
               → ent 𝓤 (⋆ 𝓤 H A (At at ts f g m)) (Wp 𝓤 H C Λ En body.turn-1 (afterTurn 𝓤 H X Left))
           unfolding afterTurn
           more X then =
               qed W (At at ts f g m) ∵ exec ! C Λ En body.turn-1 (anyQ (afterTurn 𝓤 H X Left)) $
-              assigns ! (of-opd ! (load ! (from ! (fld ! refl (stop !))) (look-in ! 11 (sub ! 0 refl (whole !)))))
-              (from
-              ! (stop !)) (init ! 14 refl (tt, tt)) $
-              rewrite ! 14 (λ (t : Bool). ‵ (fat fullShare tyBool l₁₀ 0 (vbool t))) goes-on refl $
-              stays ! (load ! (from ! (stop !)) (look ! 14 refl)) $
+              assigns ! (of-opd ! (load ! (from ! (fld ! refl (stop !))) (look-in ! 33 (sub ! 0 refl (whole !)))))
+              (from !
+              (stop !)) (init ! 2 refl (tt, tt)) $
+              rewrite ! 2 (λ (t : Bool). ‵ (fat fullShare tyBool l₁₀ 0 (vbool t))) goes-on refl $
+              stays ! (load ! (from ! (stop !)) (look ! 2 refl)) $
               -- `sources_of`, with a copy of what the plan owns
-              move ! (1 ∷ []) $ use1 W (‵ Own₀ ⊛ ‵ Own₀) (shr-slice-copy 𝓤 H A W (named 0) κ₀ u64 .twice x₀ (s₀ ∷ []))
-              $
+              move ! (23 ∷ []) $ use1 W (‵ Own₀ ⊛ ‵ Own₀) (shr-slice-copy 𝓤 H A W (named 0) κ₀ u64 .twice x₀ (s₀ ∷
+              [])) $
               split ! $
-              move ! (3 ∷ 0 ∷ []) $ use2 W (raw (SourcesOf 𝓤 H A mem run .pre (to-sources at))) (goes-sources at ts
+              move ! (25 ∷ 0 ∷ []) $ use2 W (raw (SourcesOf 𝓤 H A mem run .pre (to-sources at))) (goes-sources at ts
               at-is
               ready) $
               calls-at ! fm (SourcesOf 𝓤 H A mem run) known-sources (to-sources at) (and-then ! (load ! (from ! (stop
               !))
-              (look ! 8 refl)) (and-then ! (load ! (from ! (stop !)) (look ! 11 refl)) (no-more !))) (λ w.
+              (look ! 30 refl)) (and-then ! (load ! (from ! (stop !)) (look ! 33 refl)) (no-more !))) (λ w.
               use1 W (later (some (λ (r : Sources). ((‵ (flft κ₀ q₀) ⊛ ‵ ftrue) ⊛ ‵ (S.the-row .own r (w ∷ []))) ⊛ raw
               (ensured 𝓤 H A the-sources.ended (the-sources.clauses 𝓤 H A mem run) (κ₀, tt) (x₀, (at, tt)) tt r))))
               (id⊢ 𝓤 _) $ await ! tt $ pick ! (λ r. split ! $ move ! (1 ∷ []) $
@@ -512,107 +511,112 @@ module _ {M : Type 1} (𝓤 : URA M) (H : Heap 𝓤) (A : Atoms 𝓤) (W : Given
               (r ≡ sourcesOf plan (at .lengths) (at .b - 1)) (λ e. split ! $ move ! (1 ∷ []) $ peeks ! S.the-row (Is
               S.the-row)
               (shows 𝓤 H A S.the-row) r (w ∷ []) (λ is.
-              land ! (from ! (stop !)) (init ! 13 refl (LL.lawful S.the-type S′.the-laws 𝓤 H A W .typed r _ is .0)) $
-              drop ! $ split ! $
-              rewrite ! 13 (λ (v : Val). ‵ (fat fullShare sourcesTy l₈ 0 v)) (ap only (LL.tells S.the-type S′.the-laws
-              r
-              _ is)) refl $
+              land ! (from ! (stop !)) (init ! 3 refl (LL.lawful S.the-type S′.the-laws 𝓤 H A W .typed r _ is .0)) $
+              drop !
+              $ split ! $
+              rewrite ! 3 (λ (v : Val). ‵ (fat fullShare sourcesTy l₈ 0 v)) (ap only (LL.tells S.the-type S′.the-laws
+              r _
+              is)) refl $
               -- `fetch` of the jump target's row
-              assigns ! (addr ! (from ! (fld ! refl (hop ! (look-in ! 11 (sub ! 0 refl (whole !))) (stop !))))) (from !
-              (stop !)) (init ! 17 refl (tt, tt)) $
-              assigns ! (agg ! (and-then ! (load ! (from ! (stop !)) (look ! 17 refl)) (and-then ! (load ! (from !
-              (fld !
-              refl (stop !))) (look-in ! 11 (sub ! 1 refl (whole !)))) (no-more !)))) (from ! (stop !)) (init ! 18 refl
-              (tt, (tt, (record { fits = room₁ .0 }, tt)))) $
-              assigns ! (addr ! (from ! (stop !))) (from ! (stop !)) (init ! 19 refl (tt, tt)) $
-              assigns ! (agg ! (and-then ! (load ! (from ! (stop !)) (look ! 19 refl)) (and-then ! (lit ! tt) (no-more
-              !)))) (from ! (stop !)) (init ! 20 refl (tt, (tt, (record { fits = lit< tt }, tt)))) $
-              move ! (5 ∷ 3 ∷ 4 ∷ []) $ fetches κ₁ q₁ γ₁ b₁ o₁ ts (length lent) (r .jump) (r .jumps) f l₄ 𝓤 H A mem
-              run W
+              assigns ! (addr ! (from ! (fld ! refl (hop ! (look-in ! 33 (sub ! 0 refl (whole !))) (stop !))))) (from !
+              (stop !)) (init ! 7 refl (tt, tt)) $
+              assigns ! (agg ! (and-then ! (load ! (from ! (stop !)) (look ! 7 refl)) (and-then ! (load ! (from ! (fld !
+              refl (stop !))) (look-in ! 33 (sub ! 1 refl (whole !)))) (no-more !)))) (from ! (stop !)) (init ! 8 refl (
+                tt,
+                (tt, (record { fits = room₁ .0 }, tt)),
+              )) $
+              assigns ! (addr ! (from ! (stop !))) (from ! (stop !)) (init ! 9 refl (tt, tt)) $
+              assigns ! (agg ! (and-then ! (load ! (from ! (stop !)) (look ! 9 refl)) (and-then ! (lit ! tt) (no-more
+              !))))
+              (from ! (stop !)) (init ! 10 refl (tt, (tt, (record { fits = lit< tt }, tt)))) $
+              move ! (27 ∷ 25 ∷ 26 ∷ []) $ fetches κ₁ q₁ γ₁ b₁ o₁ ts (length lent) (r .jump) (r .jumps) f l₄ 𝓤 H A
+              mem run W
               (named 1) same ! fm known-fetch room-ts (jump-fits r w is) (jumps-fit r w is) f-size (jump-asked plan
               count
               at ts ready r e)
-              (λ _. (and-then ! (load ! (from ! (stop !)) (look ! 17 refl)) (and-then ! (load ! (from ! (fld ! refl
+              (λ _. (and-then ! (load ! (from ! (stop !)) (look ! 10 refl)) (and-then ! (load ! (from ! (fld ! refl
               (stop
-              !))) (look-in ! 12 (sub ! 1 refl (whole !)))) (and-then ! (load ! (from ! (fld ! refl (stop !)))
-              (look-in !
-              12 (sub ! 2 refl (whole !)))) (and-then ! (load ! (from ! (stop !)) (look ! 19 refl)) (no-more !))))))
-              (λ w₁ n₁ is₁. land ! (from ! (stop !)) (init ! 16 refl (uint-lawful 𝓤 H A W w64 .typed n₁ _ is₁ .0)) $
+              !))) (look-in ! 5 (sub ! 1 refl (whole !)))) (and-then ! (load ! (from ! (fld ! refl (stop !)))
+              (look-in ! 5
+              (sub ! 2 refl (whole !)))) (and-then ! (load ! (from ! (stop !)) (look ! 12 refl)) (no-more !))))))
+              (λ w₁ n₁ is₁. land ! (from ! (stop !)) (init ! 9 refl (uint-lawful 𝓤 H A W w64 .typed n₁ _ is₁ .0)) $
               -- and of the fall target's
-              assigns ! (addr ! (from ! (fld ! refl (hop ! (look-in ! 11 (sub ! 0 refl (whole !))) (stop !))))) (from !
-              (stop !)) (init ! 21 refl (tt, tt)) $
-              assigns ! (agg ! (and-then ! (load ! (from ! (stop !)) (look ! 21 refl)) (and-then ! (load ! (from !
+              assigns ! (addr ! (from ! (fld ! refl (hop ! (look-in ! 33 (sub ! 0 refl (whole !))) (stop !))))) (from !
+              (stop !)) (init ! 14 refl (tt, tt)) $
+              assigns ! (agg ! (and-then ! (load ! (from ! (stop !)) (look ! 14 refl)) (and-then ! (load ! (from !
               (fld !
-              refl (stop !))) (look-in ! 11 (sub ! 1 refl (whole !)))) (no-more !)))) (from ! (stop !)) (init ! 22 refl
+              refl (stop !))) (look-in ! 33 (sub ! 1 refl (whole !)))) (no-more !)))) (from ! (stop !)) (init ! 15 refl
               (tt, (tt, (record { fits = room₁ .0 }, tt)))) $
-              assigns ! (addr ! (from ! (stop !))) (from ! (stop !)) (init ! 23 refl (tt, tt)) $
-              assigns ! (agg ! (and-then ! (load ! (from ! (stop !)) (look ! 23 refl)) (and-then ! (lit ! tt) (no-more
-              !)))) (from ! (stop !)) (init ! 24 refl (tt, (tt, (record { fits = lit< tt }, tt)))) $
-              move ! (6 ∷ 0 ∷ 1 ∷ []) $ fetches κ₁ q₁ γ₁ b₁ o₁ ts (length lent) (r .fall) (r .falls) g l₅ 𝓤 H A mem
+              assigns ! (addr ! (from ! (stop !))) (from ! (stop !)) (init ! 16 refl (tt, tt)) $
+              assigns ! (agg ! (and-then ! (load ! (from ! (stop !)) (look ! 16 refl)) (and-then ! (lit ! tt) (no-more
+              !)))) (from ! (stop !)) (init ! 17 refl (tt, (tt, (record { fits = lit< tt }, tt)))) $
+              move ! (28 ∷ 0 ∷ 1 ∷ []) $ fetches κ₁ q₁ γ₁ b₁ o₁ ts (length lent) (r .fall) (r .falls) g l₅ 𝓤 H A mem
               run W
               (named 1) same ! fm known-fetch room-ts (fall-fits r w is) (falls-fit r w is) g-size (fall-asked plan
               count
               at ts ready r e)
-              (λ _. (and-then ! (load ! (from ! (stop !)) (look ! 21 refl)) (and-then ! (load ! (from ! (fld ! refl
+              (λ _. (and-then ! (load ! (from ! (stop !)) (look ! 15 refl)) (and-then ! (load ! (from ! (fld ! refl
               (stop
-              !))) (look-in ! 12 (sub ! 3 refl (whole !)))) (and-then ! (load ! (from ! (fld ! refl (stop !)))
-              (look-in !
-              12 (sub ! 4 refl (whole !)))) (and-then ! (load ! (from ! (stop !)) (look ! 23 refl)) (no-more !))))))
-              (λ w₂ n₂ is₂. land ! (from ! (stop !)) (store ! 16 refl (uint-lawful 𝓤 H A W w64 .typed n₂ _ is₂ .0)) $
+              !))) (look-in ! 6 (sub ! 3 refl (whole !)))) (and-then ! (load ! (from ! (fld ! refl (stop !)))
+              (look-in ! 6
+              (sub ! 4 refl (whole !)))) (and-then ! (load ! (from ! (stop !)) (look ! 17 refl)) (no-more !))))))
+              (λ w₂ n₂ is₂. land ! (from ! (stop !)) (store ! 10 refl (uint-lawful 𝓤 H A W w64 .typed n₂ _ is₂ .0)) $
               -- `make`
-              assigns ! (addr ! (from ! (stop !))) (from ! (stop !)) (init ! 25 refl (tt, tt)) $
-              assigns ! (agg ! (and-then ! (load ! (from ! (stop !)) (look ! 25 refl)) (and-then ! (lit ! tt) (no-more
-              !)))) (from ! (stop !)) (init ! 26 refl (tt, (tt, (record { fits = lit< tt }, tt)))) $
-              assigns ! (addr ! (from ! (stop !))) (from ! (stop !)) (init ! 27 refl (tt, tt)) $
-              assigns ! (agg ! (and-then ! (load ! (from ! (stop !)) (look ! 27 refl)) (and-then ! (lit ! tt) (no-more
-              !)))) (from ! (stop !)) (init ! 28 refl (tt, (tt, (record { fits = lit< tt }, tt)))) $
-              assigns ! (addr ! (from ! (stop !))) (from ! (stop !)) (init ! 29 refl (tt, tt)) $
-              assigns ! (agg ! (and-then ! (load ! (from ! (stop !)) (look ! 29 refl)) (and-then ! (lit ! tt) (no-more
-              !)))) (from ! (stop !)) (init ! 30 refl (tt, (tt, (record { fits = lit< tt }, tt)))) $
-              move ! (4 ∷ 6 ∷ 3 ∷ 2 ∷ 7 ∷ []) $ makes κ₀ q₀ γ₀ b₀ o₀ plan count r (first r) l₄ (second r) l₅ m l₆ 𝓤 H A
+              assigns ! (addr ! (from ! (stop !))) (from ! (stop !)) (init ! 19 refl (tt, tt)) $
+              assigns ! (agg ! (and-then ! (load ! (from ! (stop !)) (look ! 19 refl)) (and-then ! (lit ! tt) (no-more
+              !)))) (from ! (stop !)) (init ! 20 refl (tt, (tt, (record { fits = lit< tt }, tt)))) $
+              assigns ! (addr ! (from ! (stop !))) (from ! (stop !)) (init ! 21 refl (tt, tt)) $
+              assigns ! (agg ! (and-then ! (load ! (from ! (stop !)) (look ! 21 refl)) (and-then ! (lit ! tt) (no-more
+              !)))) (from ! (stop !)) (init ! 22 refl (tt, (tt, (record { fits = lit< tt }, tt)))) $
+              assigns ! (addr ! (from ! (stop !))) (from ! (stop !)) (init ! 23 refl (tt, tt)) $
+              assigns ! (agg ! (and-then ! (load ! (from ! (stop !)) (look ! 23 refl)) (and-then ! (lit ! tt) (no-more
+              !)))) (from ! (stop !)) (init ! 24 refl (tt, (tt, (record { fits = lit< tt }, tt)))) $
+              move ! (4 ∷ 6 ∷ 3 ∷ 2 ∷ 29 ∷ []) $ makes κ₀ q₀ γ₀ b₀ o₀ plan count r (first r) l₄ (second r) l₅ m l₆ 𝓤 H A
               mem run W !
               fm known-make count-fits (sources-are r w is) (first-size r) (second-size r) m-size
               (make-asked plan count at ts ready r e f f-size g g-size)
-              (λ _. (and-then ! (load ! (from ! (stop !)) (look ! 6 refl)) (and-then ! (load ! (from ! (stop !)) (look
-              !
-              7 refl)) (and-then ! (load ! (from ! (stop !)) (look ! 10 refl)) (and-then ! (load ! (from ! (stop !))
-              (look ! 23 refl)) (and-then ! (load ! (from ! (stop !)) (look ! 25 refl)) (and-then ! (load ! (from !
-              (stop
-              !)) (look ! 27 refl)) (no-more !))))))))
-              (λ w₃ z known. land ! (from ! (stop !)) (init ! 14 refl (LL.lawful B.the-type B′.the-laws 𝓤 H A W .typed
-              (z
+              (λ _. (and-then ! (load ! (from ! (stop !)) (look ! 28 refl)) (and-then ! (load ! (from ! (stop !))
+              (look !
+              29 refl)) (and-then ! (load ! (from ! (stop !)) (look ! 5 refl)) (and-then ! (load ! (from ! (stop !))
+              (look
+              ! 18 refl)) (and-then ! (load ! (from ! (stop !)) (look ! 20 refl)) (and-then ! (load ! (from ! (stop !))
+              (look ! 22 refl)) (no-more !))))))))
+              (λ w₃ z known. land ! (from ! (stop !)) (init ! 9 refl (LL.lawful B.the-type B′.the-laws 𝓤 H A W .typed (z
               .1) _ (known .1 .1) .0)) $
-              rewrite ! 14 (λ (v : Val). ‵ (fat fullShare builtTy l₉ 0 v)) (ap only (LL.tells B.the-type B′.the-laws (z
-              .1) _ (known .1 .1))) refl $
+              rewrite ! 9 (λ (v : Val). ‵ (fat fullShare builtTy l₉ 0 v)) (ap only (LL.tells B.the-type B′.the-laws
+              (z .1)
+              _ (known .1 .1))) refl $
               -- `store`
-              assigns ! (addr ! (from ! (fld ! refl (hop ! (look-in ! 11 (sub ! 0 refl (whole !))) (stop !))))) (from !
-              (stop !)) (init ! 31 refl (tt, tt)) $
-              assigns ! (agg ! (and-then ! (load ! (from ! (stop !)) (look ! 31 refl)) (and-then ! (load ! (from !
+              assigns ! (addr ! (from ! (fld ! refl (hop ! (look-in ! 33 (sub ! 0 refl (whole !))) (stop !))))) (from !
+              (stop !)) (init ! 26 refl (tt, tt)) $
+              assigns ! (agg ! (and-then ! (load ! (from ! (stop !)) (look ! 26 refl)) (and-then ! (load ! (from !
               (fld !
-              refl (stop !))) (look-in ! 11 (sub ! 1 refl (whole !)))) (no-more !)))) (from ! (stop !)) (init ! 32 refl
+              refl (stop !))) (look-in ! 33 (sub ! 1 refl (whole !)))) (no-more !)))) (from ! (stop !)) (init ! 27 refl
               (tt, (tt, (record { fits = room₁ .0 }, tt)))) $
-              assigns ! (addr ! (from ! (stop !))) (from ! (stop !)) (init ! 33 refl (tt, tt)) $
-              assigns ! (agg ! (and-then ! (load ! (from ! (stop !)) (look ! 33 refl)) (and-then ! (lit ! tt) (no-more
-              !)))) (from ! (stop !)) (init ! 34 refl (tt, (tt, (record { fits = lit< tt }, tt)))) $
+              assigns ! (addr ! (from ! (stop !))) (from ! (stop !)) (init ! 28 refl (tt, tt)) $
+              assigns ! (agg ! (and-then ! (load ! (from ! (stop !)) (look ! 28 refl)) (and-then ! (lit ! tt) (no-more
+              !)))) (from ! (stop !)) (init ! 29 refl (tt, (tt, (record { fits = lit< tt }, tt)))) $
               move ! (4 ∷ 5 ∷ 6 ∷ []) $ stores κ₁ q₁ γ₁ b₁ o₁ ts (length lent) (z .1 .from) (z .1 .entries) (z .0) l₆
-              𝓤 H
-              A mem run
+              𝓤 H A
+              mem run
               W (named 1) same ! fm known-store room-ts (from-fits (z .1) w₃ (known .1 .1)) (entries-fit (z .1) w₃
               (known
               .1 .1))
               (known .0) (store-asked plan count at ts ready r e f f-size g g-size (z .0) (z .1) (known .1 .0))
-              (λ _. (and-then ! (load ! (from ! (stop !)) (look ! 31 refl)) (and-then ! (load ! (from ! (fld ! refl
+              (λ _. (and-then ! (load ! (from ! (stop !)) (look ! 26 refl)) (and-then ! (load ! (from ! (fld ! refl
               (stop
-              !))) (look-in ! 13 (sub ! 1 refl (whole !)))) (and-then ! (load ! (from ! (stop !)) (look ! 33 refl))
-              (and-then ! (load ! (from ! (fld ! refl (stop !))) (look-in ! 13 (sub ! 2 refl (whole !)))) (no-more
+              !))) (look-in ! 8 (sub ! 1 refl (whole !)))) (and-then ! (load ! (from ! (stop !)) (look ! 28 refl))
+              (and-then ! (load ! (from ! (fld ! refl (stop !))) (look-in ! 8 (sub ! 2 refl (whole !)))) (no-more
               !))))))
-              (λ w₄ n₄ is₄. land ! (from ! (stop !)) (store ! 16 refl (uint-lawful 𝓤 H A W w64 .typed n₄ _ is₄ .0)) $
+              (λ w₄ n₄ is₄. land ! (from ! (stop !)) (store ! 11 refl (uint-lawful 𝓤 H A W w64 .typed n₄ _ is₄ .0)) $
               -- `following_of`
               use0 W (raw (Following 𝓤 H A mem run .pre (to-following at (z .1 .held))))
               (goes-following at (z .1 .held) at-is (held-fits (z .1) w₃ (known .1 .1)) asked) $
               calls-at-last ! fm (Following 𝓤 H A mem run) known-following (to-following at (z .1 .held)) (and-then !
-              (load ! (from ! (stop !)) (look ! 13 refl)) (and-then ! (load ! (from ! (fld ! refl (stop !))) (look-in !
-              15 (sub ! 0 refl (whole !)))) (no-more !))) (λ v.
+              (load
+              ! (from ! (stop !)) (look ! 35 refl)) (and-then ! (load ! (from ! (fld ! refl (stop !))) (look-in ! 10
+              (sub !
+              0 refl (whole !)))) (no-more !))) (λ v.
               use1 W (later (some (λ (next : Drive). (‵ ftrue ⊛ ‵ (D.the-row .own next (v ∷ []))) ⊛ raw (ensured 𝓤 H A
               the-following.ended
               (the-following.clauses 𝓤 H A mem run) tt (at, (z .1 .held, tt)) tt next)))) (id⊢ 𝓤 _) $ await ! tt $
@@ -622,29 +626,23 @@ module _ {M : Type 1} (𝓤 : URA M) (H : Heap 𝓤) (A : Atoms 𝓤) (W : Given
               (following-told at (z .1 .held) next) $ heard ! (next ≡ following at (z .1 .held)) (λ en.
               split ! $ move ! (1 ∷ []) $ peeks ! D.the-row (Is D.the-row) (shows 𝓤 H A D.the-row) next (v ∷ []) (λ
               is-n.
-              land-last ! (from ! (stop !)) (store ! 14 refl (LL.lawful D.the-type D′.the-laws 𝓤 H A W .typed next _
+              land-last ! (from ! (stop !)) (store ! 36 refl (LL.lawful D.the-type D′.the-laws 𝓤 H A W .typed next _
               is-n
               .0)) $
-              rewrite ! 14 (λ (u : Val). ‵ (fat fullShare driveTy l₇ 0 u)) (ap only (LL.tells D.the-type D′.the-laws
-              next
-              _ is-n)) refl $
-              forget ! 15 refl $ forget ! 16 refl $ forget ! 17 refl $ forget ! 18 refl $ forget ! 19 refl $ forget !
-              20
-              refl $ forget ! 21 refl $ forget ! 22 refl $ forget ! 23 refl $ forget ! 24 refl $ forget ! 25 refl $
-              forget ! 26 refl $ forget ! 27 refl $ forget ! 28 refl $ forget ! 29 refl $ forget ! 30 refl $ forget !
-              31
-              refl $ forget ! 32 refl $ forget ! 33 refl $ forget ! 34 refl $ forget ! 35 refl $ forget ! 36 refl $
-              keep ! (2 ∷ 6 ∷ 5 ∷ 3 ∷ 7 ∷ 8 ∷ 4 ∷ 10 ∷ 11 ∷ 12 ∷ 13 ∷ 14 ∷ 15 ∷ 16 ∷ 17 ∷ 18 ∷ 19 ∷ 20 ∷ 21 ∷ 22 ∷ 23 ∷
-              24 ∷ 25 ∷ 26 ∷ 27 ∷ 28 ∷ 29 ∷ 30 ∷ 31 ∷ 32 ∷ 33 ∷ 34 ∷ 35 ∷ 36 ∷ 37 ∷ []) $ by ! (then (
-                next,
-                (
-                  table-then
-                      z,
-                  (first r, (second r, z .0)),
-                ),
-              )
+              rewrite ! 36 (λ (u : Val). ‵ (fat fullShare driveTy l₇ 0 u)) (ap only (LL.tells D.the-type D′.the-laws
+              next _
+              is-n)) refl $
+              keep ! (10 ∷ 11 ∷ 12 ∷ 13 ∷ 14 ∷ 15 ∷ 16 ∷ 17 ∷ 18 ∷ 19 ∷ 20 ∷ 21 ∷ 22 ∷ 23 ∷ 24 ∷ 25 ∷ 26 ∷ 27 ∷ 28 ∷
+              29 ∷
+              30 ∷ 31 ∷ 2 ∷ 6 ∷ 5 ∷ 3 ∷ 7 ∷ 8 ∷ 4 ∷ 32 ∷ 33 ∷ 34 ∷ 35 ∷ 36 ∷ 37 ∷ []) $ by ! (spent-all 𝓤 H A W Temps
+              (has
+              _ ∷ has _ ∷ has _ ∷ has _ ∷ has _ ∷ has _ ∷ has _ ∷ has _ ∷ has _ ∷ has _ ∷ has _ ∷ has _ ∷ has _ ∷ has
+              _ ∷
+              has _ ∷ has _ ∷ has _ ∷ has _ ∷ has _ ∷ has _ ∷ has _ ∷ has _ ∷ []) (Kept next (table-then z) (first r)
+              (second r) (z .0)) X
+              (then (next, (table-then z, (first r, (second r, z .0))))
               ((driven z r (known .1 .0) e next en, drive-is next v is-n), (first-size r, (second-size r, known .0)))
-              (less z r (known .1 .0) e next en))))))))))))))
+              (less z r (known .1 .0) e next en)))))))))))))))
 
       -- the turn that leaves the loop, and the rest of the body
       leaves : (at : Drive) (ts : List Entry) (f g m : List ℕ) (X : SProp 𝓤) → Good at ts f g m → at .going ≡ false
@@ -652,32 +650,33 @@ module _ {M : Type 1} (𝓤 : URA M) (H : Heap 𝓤) (A : Atoms 𝓤) (W : Given
       unfolding afterTurn
       leaves at ts f g m X good ended =
           qed W (At at ts f g m) ∵ exec ! C Λ En body.turn-1 (anyQ (afterTurn 𝓤 H X Left)) $
-          assigns ! (of-opd ! (load ! (from ! (fld ! refl (stop !))) (look-in ! 11 (sub ! 0 refl (whole !))))) (from !
-          (stop !)) (init ! 14 refl (tt, tt)) $
-          rewrite ! 14 (λ (t : Bool). ‵ (fat fullShare tyBool l₁₀ 0 (vbool t))) ended refl $
-          leaves-loop ! (load ! (from ! (stop !)) (look ! 14 refl)) $ exec ! C Λ En body.t-6 (atRet En Post) $
+          assigns ! (of-opd ! (load ! (from ! (fld ! refl (stop !))) (look-in ! 33 (sub ! 0 refl (whole !))))) (from !
+          (stop !)) (init ! 2 refl (tt, tt)) $
+          rewrite ! 2 (λ (t : Bool). ‵ (fat fullShare tyBool l₁₀ 0 (vbool t))) ended refl $
+          leaves-loop ! (load ! (from ! (stop !)) (look ! 2 refl)) $ exec ! C Λ En body.t-6 (atRet En Post) $
           use0 W (raw (Finish 𝓤 H A mem run .pre (to-finish at))) (goes-finish at (good .0 .1) (good .0 .0 .some)) $
           calls-at ! (fmOf 𝓤 H (W .laws) 𝓣) (Finish 𝓤 H A mem run) known-finish (to-finish at) (and-then ! (load !
-          (from ! (stop !)) (look ! 12 refl)) (no-more !)) (λ w.
+          (from ! (stop !)) (look ! 34 refl)) (no-more !)) (λ w.
           use1 W (later (some (λ (r : Swept). (‵ ftrue ⊛ ‵ (E.the-row .own r (w ∷ []))) ⊛ raw
           (ensured 𝓤 H A the-finish.ended (the-finish.clauses 𝓤 H A mem run) tt (at, tt) tt r)))) (id⊢ 𝓤 _) $
           await ! tt $ pick ! (λ r.
           split ! $ move ! (1 ∷ []) $ use1 W (raw (fact 𝓤 (r ≡ finished at))) (finish-told at r) $ heard !
           (r ≡ finished at) (λ e. split ! $ move ! (1 ∷ []) $ peeks ! E.the-row (Is E.the-row)
           (shows 𝓤 H A E.the-row) r (w ∷ []) (λ is-r.
-          land ! (from ! (stop !)) (init ! 9 refl (EL.lawful E.the-type E′.the-laws 𝓤 H A W tt .typed r _ is-r .0)) $
+          land ! (from ! (stop !)) (init ! 31 refl (EL.lawful E.the-type E′.the-laws 𝓤 H A W tt .typed r _ is-r .0)) $
           -- the rows are in their locals again
-          move ! (6 ∷ []) $ use1 W (some (λ (v : Val). ‵ (fat fullShare (arrayTy u64 size) l₄ 0 v)))
+          move ! (28 ∷ []) $ use1 W (some (λ (v : Val). ‵ (fat fullShare (arrayTy u64 size) l₄ 0 v)))
           (array-in u64 𝓤 H A W (uint-vals w64) (uint-tells w64) f size l₄ (good .1 .0)) $ pick ! (λ v₄.
-          move ! (7 ∷ []) $ use1 W (some (λ (v : Val). ‵ (fat fullShare (arrayTy u64 size) l₅ 0 v)))
+          move ! (29 ∷ []) $ use1 W (some (λ (v : Val). ‵ (fat fullShare (arrayTy u64 size) l₅ 0 v)))
           (array-in u64 𝓤 H A W (uint-vals w64) (uint-tells w64) g size l₅ (good .1 .1 .0)) $ pick ! (λ v₅.
-          move ! (8 ∷ []) $ use1 W (some (λ (v : Val). ‵ (fat fullShare (arrayTy u64 size) l₆ 0 v)))
+          move ! (30 ∷ []) $ use1 W (some (λ (v : Val). ‵ (fat fullShare (arrayTy u64 size) l₆ 0 v)))
           (array-in u64 𝓤 H A W (uint-vals w64) (uint-tells w64) m size l₆ (good .1 .1 .1)) $ pick ! (λ v₆.
-          returns ! (look ! 9 refl) $ forget ! 9 refl $ forget ! 10 refl $ forget ! 11 refl $ forget ! 12 refl $ forget
-          ! 2 refl $ forget ! 1 refl $ forget ! 0 refl $ forget ! 13 refl $ forget ! 16 refl $
-          keep ! (9 ∷ 10 ∷ 11 ∷ 12 ∷ 2 ∷ 1 ∷ 0 ∷ 13 ∷ 14 ∷ 15 ∷ 16 ∷ 17 ∷ 18 ∷ 19 ∷ 20 ∷ 21 ∷ 22 ∷ 23 ∷ 24 ∷ 25 ∷ 26 ∷
-          27 ∷ 28 ∷ 29 ∷ 30 ∷ 31 ∷ 32 ∷ 33 ∷ 34 ∷ 35 ∷ 36 ∷ 7 ∷ 8 ∷ 6 ∷ 5 ∷ []) $ by ! (free-all 𝓤 H A W En (Had ts)
-          (Post w)
+          returns ! (look ! 31 refl) $
+          keep ! (31 ∷ 32 ∷ 33 ∷ 34 ∷ 2 ∷ 1 ∷ 0 ∷ 35 ∷ 5 ∷ 6 ∷ 7 ∷ 8 ∷ 9 ∷ 10 ∷ 11 ∷ 12 ∷ 13 ∷ 14 ∷ 15 ∷ 16 ∷ 17 ∷ 18 ∷
+          19 ∷ 20 ∷ 21 ∷ 22 ∷ 23 ∷ 24 ∷ 25 ∷ 26 ∷ 36 ∷ 29 ∷ 30 ∷ 28 ∷ 27 ∷ []) $ by ! (free-all 𝓤 H A W En (has _ ∷ has
+          _ ∷ has _ ∷ has _ ∷ has _ ∷ has _ ∷ has _ ∷ has _ ∷ none ∷ none ∷ has _ ∷ none ∷ none ∷ none ∷ none ∷ none ∷
+          none ∷ none ∷ none ∷ none ∷ none ∷ none ∷ none ∷ none ∷ none ∷ none ∷ none ∷ none ∷ none ∷ none ∷ []) (Had
+          ts) (Post w)
           (exits ts r w (good .0 .0 .same) (owed r e) is-r)))))))))
         where
           owed : (r : Swept) → r ≡ finished at → Owed ts r
@@ -763,8 +762,8 @@ module _ {M : Type 1} (𝓤 : URA M) (H : Heap 𝓤) (A : Atoms 𝓤) (W : Given
         land ! (from ! (stop !)) (init ! 14 refl (LL.lawful D.the-type D′.the-laws 𝓤 H A W .typed r _ is-r .0)) $
         rewrite ! 14 (λ (u : Val). ‵ (fat fullShare driveTy (ls .1 .1 .1 .1 .1 .1 .1 .0) 0 u)) (ap only (LL.tells
         D.the-type D′.the-laws r _ is-r)) refl $ drop ! $ split ! $
-        keep ! (6 ∷ 2 ∷ 0 ∷ 8 ∷ 5 ∷ 4 ∷ 3 ∷ 10 ∷ 11 ∷ 12 ∷ 13 ∷ 14 ∷ 15 ∷ 16 ∷ 17 ∷ 18 ∷ 19 ∷ 20 ∷ 21 ∷ 22 ∷ 23 ∷ 24 ∷
-        25 ∷ 26 ∷ 27 ∷ 28 ∷ 29 ∷ 30 ∷ 31 ∷ 32 ∷ 33 ∷ 34 ∷ 35 ∷ 36 ∷ 37 ∷ []) $ by ! (loops (e .1) (ls .0) (ls .1 .0)
+        keep ! (15 ∷ 16 ∷ 17 ∷ 18 ∷ 19 ∷ 20 ∷ 21 ∷ 22 ∷ 23 ∷ 24 ∷ 25 ∷ 26 ∷ 27 ∷ 28 ∷ 29 ∷ 30 ∷ 31 ∷ 32 ∷ 33 ∷ 34 ∷ 35
+        ∷ 36 ∷ 6 ∷ 2 ∷ 0 ∷ 8 ∷ 5 ∷ 4 ∷ 3 ∷ 10 ∷ 11 ∷ 12 ∷ 13 ∷ 14 ∷ 37 ∷ []) $ by ! (loops (e .1) (ls .0) (ls .1 .0)
         (ls .1 .1 .0) (ls .1 .1 .1 .0) (ls .1 .1 .1 .1 .0) (ls .1 .1 .1 .1 .1 .0) (ls .1 .1 .1 .1 .1 .1 .0) (ls .1 .1
         .1 .1 .1 .1 .1 .0) (ls .1 .1 .1 .1 .1 .1 .1 .1 .0) (ls .1 .1 .1 .1 .1 .1 .1 .1 .1 .0) (ls .1 .1 .1 .1 .1 .1 .1
         .1 .1 .1 .0) (ls .1 .1 .1 .1 .1 .1 .1 .1 .1 .1 .1 .0) (ls .1 .1 .1 .1 .1 .1 .1 .1 .1 .1 .1 .1 .0) (ls .1 .1 .1
@@ -798,8 +797,7 @@ module _ {M : Type 1} (𝓤 : URA M) (H : Heap 𝓤) (A : Atoms 𝓤) (W : Given
     (known-store : Triple 𝓤 (𝓣 .C #sweep·store) (Store 𝓤 H A mem run))
     (known-following : Triple 𝓤 (𝓣 .C #sweep·following-of) (Following 𝓤 H A mem run))
     (known-finish : Triple 𝓤 (𝓣 .C #sweep·finish) (Finish 𝓤 H A mem run)) where
-  rows-walks : Walks 𝓤 H A the-rows.ended stayed (WpFn 𝓤 H (𝓣 .C) (𝓣 .Λ) code.function) (the-rows.clauses 𝓤 H A mem
-      run)
+  rows-walks : Walks 𝓤 H A the-rows.ended stayed (WpFn 𝓤 H (𝓣 .C) (𝓣 .Λ) code.function) (the-rows.clauses 𝓤 H A mem run)
   rows-walks = walked 𝓤 H A the-rows.ended stayed (the-rows.clauses 𝓤 H A mem run)
       (WpFn 𝓤 H (𝓣 .C) (𝓣 .Λ) code.function)
       (λ κs. (slice-vals, (uint-vals w64, (slice-vals, tt))))
