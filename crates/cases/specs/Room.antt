@@ -1,4 +1,5 @@
--- What the writer and the list say they have written stands in the lent bytes: so many bytes are there. Rests on form's and listing's Answer.
+-- What the writer and the list say they have written stands in the lent bytes: so many bytes are there. Rests on form's
+-- and listing's Answer.
 use mathlib.Core.Bool.{Bool, true, false}
 use mathlib.Core.List.{List, _++_}
 use mathlib.Core.Path.{_≡_, ap, sym, _∙_}
@@ -28,7 +29,8 @@ front n bytes rest held e h =
 
 written-length :
     (fit : Bool) (verdict : Verdict) (short : Bool) (l n : ℕ)
-    → WrittenBytes n ≡ when fit (asWritten verdict (when short (Unwritten 42 l) (WrittenBytes l))) (Unwritten 14 0) → n ≡ l
+    → WrittenBytes n ≡ when fit (asWritten verdict (when short (Unwritten 42 l) (WrittenBytes l))) (Unwritten 14 0)
+    → n ≡ l
 written-length true Accepted false l n e = cc
 written-length true Accepted true l n e = cc
 written-length true (Refused number place) short l n e = cc
@@ -39,7 +41,8 @@ pub written-fits :
     → r ≡ written body (length out) → held ≡ heldForm r (lay body) out → r ≡ WrittenBytes n → Counts n held
 written-fits body out held r n says holds e =
     front n (lay body) (drop (length (lay body)) out) held
-    (written-length (countsFit body) (judge (lay body)) (ltb (length out) (length (lay body))) (length (lay body)) n (sym e ∙ says))
+    (written-length (countsFit body) (judge (lay body)) (ltb (length out) (length (lay body)))
+    (length (lay body)) n (sym e ∙ says))
     (holds ∙ ap (λ (w : Written). heldForm w (lay body) out) e)
 
 listed-length :
@@ -54,7 +57,8 @@ pub listed-fits :
     → r ≡ listing form (length out) → held ≡ heldAfter r (conflictBytes (bodyOf form)) out → r ≡ Bytes n → Counts n held
 listed-fits form out held r n says holds e =
     front n (conflictBytes (bodyOf form)) (drop (length (conflictBytes (bodyOf form))) out) held
-    (listed-length (judge form) (ltb (length out) (length (conflictBytes (bodyOf form)))) (length (conflictBytes (bodyOf form))) n (sym e ∙ says))
+    (listed-length (judge form) (ltb (length out) (length (conflictBytes (bodyOf form))))
+    (length (conflictBytes (bodyOf form))) n (sym e ∙ says))
     (holds ∙ ap (λ (w : Listed). heldAfter w (conflictBytes (bodyOf form)) out) e)
 
 -- a byte set anew leaves as many

@@ -1,6 +1,7 @@
 -- Demand 3 for the calls that C makes, from their promises alone: no run of at most the answered count of iterations
 -- costs more than the answered bound (`walk-sound`, `sweep-sound`, `own-sound`); wherever two calls answer they say the
--- same (`calls-agree`, `own-agrees`); and 10 to 20 are refused alike (`refused-alike`). Rests on Answer and on ways.
+-- same (`calls-agree`, `own-agrees`); and 10 to 20 are refused alike (`refused-alike`). Rests on numbers' Answer and on
+-- ways.
 use mathlib.Core.List.{List}
 use mathlib.Core.Path.{_≡_}
 use Prim.Native.Nat.{ℕ, _<_, _≤_}

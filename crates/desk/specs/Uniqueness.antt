@@ -1,4 +1,4 @@
--- The promises of the exported calls leave one answer and one content of the lent memory. Rests on Answer, the
+-- The promises of the exported calls leave one answer and one content of the lent memory. Rests on numbers' Answer, the
 -- counter's Uniqueness and the walks' `owed-once`.
 use mathlib.Core.List.{List}
 use mathlib.Core.Path.{_≡_, sym, _∙_}

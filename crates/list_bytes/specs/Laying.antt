@@ -1,5 +1,5 @@
--- Entries laid out one after another into lent bytes: the bytes of a function that writes, and one entry more. Rests on
--- lent's Adding.
+-- Entries laid out one after another into lent bytes: the bytes of an entry, of a word and of an edge, and one entry
+-- more. Rests on lent's Adding.
 use mathlib.Core.Path.{_≡_, refl, sym, ap, _∙_}
 use mathlib.Core.Bool.{Bool, cond}
 use mathlib.Core.List.{List, [], _∷_, _++_}

@@ -1,5 +1,5 @@
-// The conflict list's bytes, and its number of entries, from the firsts of each edge (sets' Found). What bytes these are
-// is in specs/Laying.antt and specs/Listing.antt.
+// The conflict list's bytes, and its number of entries, from the firsts of each edge (sets' Found). What bytes these
+// are is in specs/Laying.antt and specs/Listing.antt.
 ghost use mathlib.Core.Path.{_≡_};
 ghost use Prim.Native.Nat.{_+_, _≤_, _<_};
 ghost use lib.ListN.{length};

@@ -1,4 +1,5 @@
--- What a body's list answers in so much room: 42 with the bytes needed, or how many it has. Rests on list_bytes' Listing.
+-- What a body's list answers in so much room: 42 with the bytes needed, or how many it has. Rests on list_bytes'
+-- Listing.
 use mathlib.Core.Path.{_≡_, ap}
 use Prim.Native.Nat.{ℕ, _+_, _*_, _≤_, _<_}
 use native.Mathlib.Omega.{arith}

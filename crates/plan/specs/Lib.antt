@@ -1,5 +1,5 @@
--- What both ways share: what a call owes that reads a form and counts (Owed, trusted; Accepted), the plan's rows
--- (Rows), a route's bytes (RouteWords).
+-- What both ways share: what a call owes that reads a form and counts and its answer's numbers (Owed, trusted;
+-- Accepted), what both start from (Prepared), the plan's rows (Rows), a route's bytes (RouteWords).
 pub mod Owed
 pub mod Accepted
 pub mod Prepared

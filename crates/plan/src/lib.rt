@@ -1,7 +1,7 @@
 // What both ways start from. The plan of a body: what the walks need of each block, 16 words a block (theory's Plan),
 // from the body's costs and the sets of its conflicts.
 ghost use mathlib.Core.Path.{_≡_};
-ghost use Prim.Native.Nat.{ℕ, _+_, _*_, _≤_, _<_};
+ghost use Prim.Native.Nat.{_+_, _*_, _≤_, _<_};
 ghost use lib.Dec.{eqb};
 ghost use lib.ListN.{length};
 ghost use Rattle.lent.specs.Adding.{Adds};

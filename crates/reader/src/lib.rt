@@ -12,7 +12,7 @@ use form::Reading;
 use records::BLOCK;
 use records::EFFECT;
 
-// How many effects stand from `at` on before the next block or the end.
+// How many effects stand from `start` on before the next block or the end.
 fn own_effects(s: &[u8], start: usize) -> usize
     requires { ⌜ start < 2 ^ 63 + 32 ⌝ }
     ensures { λ r. ⌜ r ≡ ownEffects (now (s .entry)) (recordsFrom (now (s .entry)) start) ⌝ }

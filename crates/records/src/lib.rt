@@ -1,5 +1,5 @@
 // The records of an order form, decoded: the numbers at a place of the bytes, a record's kind, and the record read as a
-// counter, a block or an effect. Offsets of fields stand here and where a record is laid out (crate writer), and
+// counter, a block or an effect. Offsets of fields stand here and where a record is laid out (crate layout), and
 // nowhere else. What each function means is in form's Form.
 ghost use mathlib.Core.Path.{_≡_};
 ghost use Prim.Native.Nat.{_+_, _<_, _≤_, _^_};

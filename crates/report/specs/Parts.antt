@@ -1,5 +1,5 @@
 -- The parts of the report that rest on an answer, as the functions leave them in the lent bytes. Rests on Report and
--- Adding.
+-- lent's Adding.
 use mathlib.Core.Bool.{Bool, true, false}
 use mathlib.Core.List.{List, _++_, append-assoc}
 use mathlib.Core.Path.{_≡_, refl, ap, sym, subst, _∙_}

@@ -1,6 +1,6 @@
 -- What the report program prints, after document 01, 'The trainer's cases'. Trusted: definitions only. A text is a list
--- of ASCII codes. Rests on the Answers of sweep and walk (what the two ways owe) and on form's Form and Conflict (the
--- body and its conflict list).
+-- of ASCII codes. Rests on the Answers of sweep_steps and walk (what the two ways owe) and on form's Form and Conflict
+-- (the body and its conflict list).
 use mathlib.Core.List.{List, [], _∷_, _++_}
 use mathlib.Core.Path.{_≡_}
 use Prim.Native.Nat.{ℕ}

@@ -1,4 +1,4 @@
--- What the reader and the writer of crate form owe together. No definition here says what a call answers; those are
+-- What the reader and the writer owe together. No definition here says what a call answers; those are
 -- form's Form and Answer.
 --   Sound      what the layers above may count on in the body of an accepted form
 --   Read       the reader's answer, and the body of an accepted form

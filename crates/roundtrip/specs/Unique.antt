@@ -1,6 +1,6 @@
--- The promises of crate form leave one answer and one content of the lent bytes, for every public call and every input,
--- refusals too; and two bodies that are the same up to their counts get the same answer and bytes from the writer.
--- Rests on Form, Answer and Laid.
+-- The promises of verdict, reader and writer leave one answer and one content of the lent bytes, for every public call
+-- and every input, refusals too; and two bodies that are the same up to their counts get the same answer and bytes from
+-- the writer. Rests on Form, Answer and Laid.
 use mathlib.Core.Bool.{Bool, true, false, _&&_}
 use mathlib.Core.List.{List, _++_}
 use mathlib.Core.Path.{_≡_, ap, sym, _∙_}

@@ -1,5 +1,5 @@
--- A row before its tails come in: empty, but for the last block's, which has its own entry. Rests on Entries and
--- theory's Plan.
+-- A row before its tails come in: empty, but for the last block's, which has its own entry. Rests on entries' Entries
+-- and theory's Plan.
 use mathlib.Core.Path.{_≡_, refl, _∙_}
 use mathlib.Core.Bool.{cond}
 use mathlib.Core.List.{List, [], _∷_}

@@ -1,5 +1,5 @@
 -- A row made of the rows of its targets, on the words of a plan: the tails by each way, one entry after another, into
--- the row under construction. Rests on Entries and
+-- the row under construction. Rests on entries' Entries and
 -- Steps.
 use mathlib.Core.Path.{_≡_, refl, sym, ap, ap₂, _∙_}
 use mathlib.Core.Bool.{Bool, true, false, cond}

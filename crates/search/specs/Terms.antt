@@ -19,16 +19,12 @@ use Rattle.theory.specs.SweepWords.{Words, wordsFound}
 use Rattle.theory.specs.WalkWords.{advance, finish}
 use Rattle.theory.specs.Range.{upTo}
 use Rattle.theory.specs.Plan.{targetAt, touchedAt, deniedAt, againstAt, costAt, IsWay, Planned, PlanOf}
-use Rattle.entries.specs.declared.Way.{Way}
 use Rattle.search.specs.declared.Banned.{Banned}
 
 -- ---- where the walk stands
 
 abbrev pub bannedAt : Banned → Key
 bannedAt at = (at .jumps, at .falls)
-
-abbrev pub carriedAt : Way → Words
-carriedAt way = (way .weight, (way .jumped, way .fallen))
 
 -- ---- what is found so far
 

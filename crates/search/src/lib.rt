@@ -8,7 +8,8 @@ ghost use Rattle.laws.specs.Terms.{bit, heavier};
 ghost use Rattle.theory.specs.Walk.{keepFirst};
 ghost use Rattle.theory.specs.WalkWords.{advance};
 ghost use Rattle.theory.specs.Plan.{costAt, PlanOf};
-ghost use Rattle.search.specs.Terms.{bannedAt, carriedAt, routeIn, foundIn, Standing, Entered, Barring, Walks};
+ghost use Rattle.entries.specs.Structs.{wordsIn};
+ghost use Rattle.search.specs.Terms.{bannedAt, routeIn, foundIn, Standing, Entered, Barring, Walks};
 ghost use Rattle.search.specs.Terms.{isOpen, Searched};
 use entries::Way;
 
@@ -50,7 +51,7 @@ fn bar(plan: &[u64; 1024], b: usize, way: usize, at: Banned) -> Banned
 // The way so far, with block b left by a way; 0 where the path ends in it.
 fn step(plan: &[u64; 1024], b: usize, way: usize, at: Way) -> Way
     requires { ⌜ (b < 64) × ((way < 3) × (at .weight + costAt (now plan) b way < 2 ^ 64)) ⌝ }
-    ensures { λ r. ⌜ carriedAt r ≡ advance (costAt (now (plan .entry))) (b, way) (carriedAt at) ⌝ }
+    ensures { λ r. ⌜ wordsIn r ≡ advance (costAt (now (plan .entry))) (b, way) (wordsIn at) ⌝ }
 {
     Way {
         weight: at.weight + plan_words::cost(plan, b, way),
@@ -61,7 +62,7 @@ fn step(plan: &[u64; 1024], b: usize, way: usize, at: Way) -> Way
 
 // A whole route is kept where it is the first, or heavier than the one kept.
 fn keep(way: Way, best: &mut [u64; 4])
-    ensures { λ _. ⌜ routeIn (now (best .exit)) ≡ keepFirst heavier (routeIn (now (best .entry))) (carriedAt way) ⌝ }
+    ensures { λ _. ⌜ routeIn (now (best .exit)) ≡ keepFirst heavier (routeIn (now (best .entry))) (wordsIn way) ⌝ }
 {
     if best[0] == 1 {
         if way.weight <= best[1] {

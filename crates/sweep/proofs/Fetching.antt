@@ -1,4 +1,5 @@
--- A call of `sweep::fetch` by whoever has the table as a `&κ mut [Entry]` and the row in a local of its own: the table is
+-- A call of `sweep::fetch` by whoever has the table as a `&κ mut [Entry]` and the row in a local of its own: the table
+-- is
 -- lent again and the row is lent, each for a lifetime of the call, and both come back.
 -- goes       [the row's words xs; the table ts; κ's token]  become  [what `fetch` asks; what comes back after it]
 -- comes      what `fetch` leaves, and what comes back after it, become [the table; κ's token; the row's words with the
@@ -112,10 +113,12 @@ module _ (κ : Lft) (q : Share) (γ : GName) (b o : ℕ) (ts : List Entry) (m : 
           rewrite ! 1 (λ (k : ℕ). ‵ (table-of ℓ κ γ k)) (sym same) refl $
           lft-new ! tt (λ ν. move ! (1 ∷ []) $ use1 W (later
           (some (λ (ε : GName). ‵ (row-of (ν ∷ []) ε (length xs)) ⊛ ‵ (flent (ν ∷ []) (Held u64 (length xs) l 0 ε)))))
-          (lends-slice 𝓤 H A W u64 (named 1) (ν ∷ []) xs l 0 (omega (arith, sized), omega (arith, sized))) $ await ! tt $
+          (lends-slice 𝓤 H A W u64 (named 1) (ν ∷ []) xs l 0 (omega (arith, sized), omega (arith, sized))) $ await ! tt
+          $
           pick ! (λ ε. split ! $ rewrite ! 0 (λ (k : ℕ). ‵ (row-of (ν ∷ []) ε k)) sized refl $
           lft-new ! tt (λ μ. move ! (4 ∷ 5 ∷ []) $ use2 W (later
-          (some (λ (δ : GName). ‵ (table-of (named 0) (μ ∷ []) δ (length ts)) ⊛ ‵ (LentAgain R κ (μ ∷ []) q γ b o δ ts))))
+          (some (λ (δ : GName). ‵ (table-of (named 0) (μ ∷ []) δ (length ts)) ⊛ ‵ (LentAgain R κ (μ ∷ []) q γ b o δ
+          ts))))
           (lends-again R κ (μ ∷ []) q γ b o 𝓤 H A W ℓ (named 0) ts) $ await ! tt $ pick ! (λ δ. split ! $
           rewrite ! 0 (λ (k : ℕ). ‵ (table-of (named 0) (μ ∷ []) δ k)) same refl $
           -- [the table; what is left of it; μ; the row; what is left of it; ν]
@@ -131,7 +134,11 @@ module _ (κ : Lft) (q : Share) (γ : GName) (b o : ℕ) (ts : List Entry) (m : 
               (Fetch 𝓤 H A mem run .pre (to-fetch ((μ, δ), (ν, ε))))
           asks μ δ ν ε =
               qed W ((‵ (flft (μ ∷ []) fullShare) ⊛ (‵ (flft (ν ∷ []) fullShare) ⊛ ‵ ftrue)) ∷ ‵
-              (table-of (named 0) (μ ∷ []) δ m) ∷ ‵ (row-of (ν ∷ []) ε size) ∷ []) ∵ says ! ((asked .0, sized), asked .1) $ frame ! $
+              (table-of (named 0) (μ ∷ []) δ m) ∷ ‵ (row-of (ν ∷ []) ε size) ∷ []) ∵ says ! (
+                (asked .0, sized),
+                asked
+                    .1,
+              ) $ frame ! $
               nothing ! $ move ! (2 ∷ 0 ∷ []) $ fjoin ! $ owned ! usize (Is usize) (uint-makes 𝓤 H A W w64) n _
               (refl, n-fits) $ fjoin ! $ owned ! usize (Is usize) (uint-makes 𝓤 H A W w64) j _ (refl, j-fits) $
               fjoin ! $ move ! (1 ∷ 0 ∷ []) $ fjoin ! $ done !
@@ -149,18 +156,21 @@ module _ (κ : Lft) (q : Share) (γ : GName) (b o : ℕ) (ts : List Entry) (m : 
           use1 W (later (some (λ (r : ℕ). ((‵ (flft (μ ∷ []) fullShare) ⊛ ‵ (flft (ν ∷ []) fullShare) ⊛ ‵ ftrue) ⊛ ‵
           (usize .own r (w ∷ []))) ⊛ raw (ensured 𝓤 H A the-fetch.ended (the-fetch.clauses 𝓤 H A mem run)
           (μ ∷ [], (ν ∷ [], tt)) (args δ ε) tt r)))) (id⊢ 𝓤 _) $ await ! tt $ pick ! (λ r.
-          split ! $ move ! (1 ∷ []) $ use1 W (some (λ (ls : List Entry × (Unit {0} × (Unit {0} × (List ℕ × Unit {0})))).
+          split ! $ move ! (1 ∷ []) $ use1 W (some (λ (ls : List Entry × (Unit {0} × (Unit {0} × (List ℕ × Unit
+          {0})))).
           ‵ (lasts the-fetch.ended (μ ∷ [], (ν ∷ [], tt)) (args δ ε) ls) ⊛ raw
           (fact 𝓤 ((ls .0 ≡ ts) × (ls .1 .1 .1 .0 ≡ fetched xs ts j n))))) (id⊢ 𝓤 _) $ pick ! (λ ls.
           split ! $ move ! (1 ∷ []) $ heard ! ((ls .0 ≡ ts) × (ls .1 .1 .1 .0 ≡ fetched xs ts j n)) (λ e.
-          fsplit ! $ fsplit ! $ move ! (1 ∷ []) $ feqL ! (λ _. move ! (1 ∷ []) $ fsplit ! $ drop ! $ fsplit ! $ drop ! $
+          fsplit ! $ fsplit ! $ move ! (1 ∷ []) $ feqL ! (λ _. move ! (1 ∷ []) $ fsplit ! $ drop ! $ fsplit ! $ drop !
+          $
           fsplit ! $ fsplit ! $ move ! (1 ∷ []) $ feqL ! (λ _.
           move ! (3 ∷ []) $ split ! $ move ! (1 ∷ []) $ peeks ! usize (Is usize) (shows 𝓤 H A usize) r (w ∷ []) (λ is.
           drop ! $ split ! $ move ! (1 ∷ []) $ split ! $
           -- [ν; the tokens' end; μ; the row's last list; the end of the lasts; the table's last list; `Back`]
           move ! (2 ∷ []) $ lft-end ! tt $ move ! (5 ∷ []) $ rewrite ! 0 (λ (zs : List Entry). ‵ (finally R δ zs))
           (e .0) refl $ move ! (6 ∷ []) $ fsplit ! $ move ! (3 ∷ 0 ∷ 2 ∷ []) $
-          use3 W (later (‵ (table-of ℓ κ γ (length ts)) ⊛ ‵ (flft κ q))) (comes-back R κ (μ ∷ []) q γ b o 𝓤 H A W ℓ (named 0) ts δ ts
+          use3 W (later (‵ (table-of ℓ κ γ (length ts)) ⊛ ‵ (flft κ q))) (comes-back R κ (μ ∷ []) q γ b o 𝓤 H A W ℓ
+          (named 0) ts δ ts
           room refl) $ await ! tt $ split ! $ rewrite ! 0 (λ (k : ℕ). ‵ (table-of ℓ κ γ k)) same refl $
           -- [the table; κ; what is left of the row; ν; ..; the row's last list; ..]
           move ! (3 ∷ []) $ lft-end ! tt $ move ! (0 ∷ 3 ∷ 5 ∷ []) $ use3 W

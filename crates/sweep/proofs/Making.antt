@@ -1,9 +1,11 @@
--- A call of `sweep_steps::make` by whoever has the plan as a `&κ [u64]` and the three rows in locals of its own: those that are
+-- A call of `sweep::make` by whoever has the plan as a `&κ [u64]` and the three rows in locals of its own: those that
+-- are
 -- read are lent to be read, the one that is made is lent, each for a lifetime of the call, and all come back.
--- goes     [κ's token; the plan; the words f and g that are read; the words m]  become  [what `make` asks; what comes back]
+-- goes     [κ's token; the plan; the words f and g that are read; the words m]  become  [what `make` asks; what comes
+-- back]
 -- comes    what `make` leaves, and what comes back after it, become [κ's token; the plan; f; g; the row that is made]
 -- makes    both, as one step of a walk: the call, in any context
--- Rests on `make`'s contract, specs/Turn and Lent; assumes `Given`.
+-- Rests on `make`'s contract, sweep_steps' Turn and Lent; assumes `Given`.
 use mathlib.Core.Path.{_≡_, refl, _∙_}
 use Prim.Native.Nat.{ℕ, _<_, _^_}
 use native.Mathlib.Omega.{arith}
@@ -87,7 +89,8 @@ module _ (κ : Lft) (q : Share) (γ : GName) (b o : ℕ) (plan : List ℕ) (coun
 
   -- what is made: its words, and how many entries it has and where they go
   abbrev pub Made : List ℕ × Built → Type 0
-  Made z = BuiltAs (leftFrom plan (s .b) (tailsBy (tailsIn s) f g) 1 (begunWith plan count (s .b))) (s .b) (z .0) (z .1)
+  Made z = BuiltAs (leftFrom plan (s .b) (tailsBy (tailsIn s) f g) 1 (begunWith plan count (s .b))) (s .b) (z .0) (z
+      .1)
 
   abbrev args : GName → GName → GName → RefT (List ℕ) ×
       (ℕ × (Sources × (RefT (List ℕ) × (RefT (List ℕ) × (RefT (List ℕ) × Unit {0})))))
@@ -131,17 +134,20 @@ module _ (κ : Lft) (q : Share) (γ : GName) (b o : ℕ) (plan : List ℕ) (coun
           move ! (1 ∷ []) $ use1 W (‵ Plan ⊛ ‵ Plan) (shr-slice-copy 𝓤 H A W (named 0) κ u64 .twice plan-at
           (sliceVal (b, o) (length plan) ∷ [])) $ split ! $ move ! (3 ∷ 4 ∷ 5 ∷ []) $
           -- [f; g; m; the plan; the plan; κ]
-          lft-new ! tt (λ ν. move ! (1 ∷ []) $ use1 W (later (some (λ (ε : GName). ‵ (first-of (ν ∷ []) ε (length f)) ⊛ ‵
+          lft-new ! tt (λ ν. move ! (1 ∷ []) $ use1 W (later (some (λ (ε : GName). ‵ (first-of (ν ∷ []) ε (length f)) ⊛
+          ‵
           (words-lent (ν ∷ []) f lf)))) (lends-words (ν ∷ []) f lf 𝓤 H A W (named 1)
           (omega (arith, f-size), omega (arith, f-size))) $ await ! tt $ pick ! (λ ε. split ! $
           rewrite ! 0 (λ (k : ℕ). ‵ (first-of (ν ∷ []) ε k)) f-size refl $
           -- [first; its rest; ν; g; m; the plan; the plan; κ]
-          lft-new ! tt (λ ξ. move ! (4 ∷ []) $ use1 W (later (some (λ (ζ : GName). ‵ (second-of (ξ ∷ []) ζ (length g)) ⊛ ‵
+          lft-new ! tt (λ ξ. move ! (4 ∷ []) $ use1 W (later (some (λ (ζ : GName). ‵ (second-of (ξ ∷ []) ζ (length g))
+          ⊛ ‵
           (words-lent (ξ ∷ []) g lg)))) (lends-words (ξ ∷ []) g lg 𝓤 H A W (named 2)
           (omega (arith, g-size), omega (arith, g-size))) $ await ! tt $ pick ! (λ ζ. split ! $
           rewrite ! 0 (λ (k : ℕ). ‵ (second-of (ξ ∷ []) ζ k)) g-size refl $
           -- [second; its rest; ξ; first; its rest; ν; m; the plan; the plan; κ]
-          lft-new ! tt (λ π. move ! (7 ∷ []) $ use1 W (later (some (λ (η : GName). ‵ (made-of (π ∷ []) η (length m)) ⊛ ‵
+          lft-new ! tt (λ π. move ! (7 ∷ []) $ use1 W (later (some (λ (η : GName). ‵ (made-of (π ∷ []) η (length m)) ⊛
+          ‵
           (flent (π ∷ []) (Held u64 (length m) lm 0 η))))) (lends-slice 𝓤 H A W u64 (named 3) (π ∷ []) m lm 0
           (omega (arith, m-size), omega (arith, m-size))) $ await ! tt $ pick ! (λ η. split ! $
           rewrite ! 0 (λ (k : ℕ). ‵ (made-of (π ∷ []) η k)) m-size refl $
@@ -188,10 +194,12 @@ module _ (κ : Lft) (q : Share) (γ : GName) (b o : ℕ) (plan : List ℕ) (coun
           (ensured 𝓤 H A the-make.ended (the-make.clauses 𝓤 H A mem run)
           (κ, (ν ∷ [], (ξ ∷ [], (π ∷ [], tt)))) (args ε ζ η) tt r)))) (id⊢ 𝓤 _) $ await ! tt $ pick ! (λ r.
           split ! $ move ! (1 ∷ []) $ use1 W (some (λ (ls : Unit {0} × (Unit {0} × (Unit {0} × (Unit {0} × (Unit {0} ×
-          (List ℕ × Unit {0})))))). ‵ (lasts the-make.ended (κ, (ν ∷ [], (ξ ∷ [], (π ∷ [], tt)))) (args ε ζ η) ls) ⊛ raw
+          (List ℕ × Unit {0})))))). ‵ (lasts the-make.ended (κ, (ν ∷ [], (ξ ∷ [], (π ∷ [], tt)))) (args ε ζ η) ls) ⊛
+          raw
           (fact 𝓤 (Made (ls .1 .1 .1 .1 .1 .0, r))))) (id⊢ 𝓤 _) $ pick ! (λ ls.
           split ! $ move ! (1 ∷ []) $ heard ! (Made (ls .1 .1 .1 .1 .1 .0, r)) (λ e.
-          fsplit ! $ drop ! $ fsplit ! $ drop ! $ fsplit ! $ drop ! $ fsplit ! $ drop ! $ fsplit ! $ drop ! $ fsplit ! $
+          fsplit ! $ drop ! $ fsplit ! $ drop ! $ fsplit ! $ drop ! $ fsplit ! $ drop ! $ fsplit ! $ drop ! $ fsplit !
+          $
           fsplit ! $ move ! (1 ∷ []) $ feqL ! (λ ml.
           move ! (2 ∷ []) $ split ! $ move ! (1 ∷ []) $ peeks ! B.the-row (Is B.the-row) (shows 𝓤 H A B.the-row) r
           (w ∷ []) (λ is.
@@ -222,16 +230,19 @@ module _ (κ : Lft) (q : Share) (γ : GName) (b o : ℕ) (plan : List ℕ) (coun
             → Ready plan (s .b) (tailsIn s) f g
             → ((t : Lent) → Opds K W (raw (Make 𝓤 H A mem run .pre (to-make t)) ∷ ‵ (Back t) ∷ Γ) E xs
             (Make 𝓤 H A mem run .args (to-make t)))
-            → ((w : Val) (z : List ℕ × Built) → Known w z → Seq K W (‵ (flft κ q) ∷ ‵ Plan ∷ ‵ (Words f lf) ∷ ‵ (Words g lg)
+            → ((w : Val) (z : List ℕ × Built) → Known w z → Seq K W (‵ (flft κ q) ∷ ‵ Plan ∷ ‵ (Words f lf) ∷ ‵ (Words
+            g lg)
             ∷ ‵ (Words (z .0) lm) ∷ Γ) (lands C Λ E d w rest post))
             → Seq K W (‵ (flft κ q) ∷ ‵ Plan ∷ ‵ (Words f lf) ∷ ‵ (Words g lg) ∷ ‵ (Words m lm) ∷ Γ)
             (runs C Λ E (seq (call #sweep-steps·make xs d) rest) post)
         makes v fm known count-fits is f-size g-size m-size ready os k =
-            cut (‵ (flft κ q) ∷ ‵ Plan ∷ ‵ (Words f lf) ∷ ‵ (Words g lg) ∷ ‵ (Words m lm) ∷ []) (later (some (λ (t : Lent).
+            cut (‵ (flft κ q) ∷ ‵ Plan ∷ ‵ (Words f lf) ∷ ‵ (Words g lg) ∷ ‵ (Words m lm) ∷ []) (later (some (λ (t :
+            Lent).
             raw (Make 𝓤 H A mem run .pre (to-make t)) ⊛ ‵ (Back t))) ∷ []) Γ
             (goes count-fits is f-size g-size m-size ready) $ await v tt $ pick v (λ t. split v $
             calls-at v fm (Make 𝓤 H A mem run) known (to-make t) (os t) (λ w.
             use2 W (later (some (λ (z : List ℕ × Built). given (Known w z) (‵ (flft κ q) ⊛ (‵ Plan ⊛ (‵ (Words f lf) ⊛
-            (‵ (Words g lg) ⊛ ‵ (Words (z .0) lm)))))))) (comes m-size t w) $ await v tt $ pick v (λ z. learn v (λ known.
+            (‵ (Words g lg) ⊛ ‵ (Words (z .0) lm)))))))) (comes m-size t w) $ await v tt $ pick v (λ z. learn v (λ
+            known.
             split v $ move v (1 ∷ []) $ split v $ move v (1 ∷ []) $ split v $ move v (1 ∷ []) $ split v $
             move v (4 ∷ 3 ∷ 2 ∷ 0 ∷ 1 ∷ []) $ k w z known))))

@@ -1,7 +1,9 @@
--- A call of `sweep::store` by whoever has the table as a `&κ mut [Entry]` and the row's words in a local of its own: the
+-- A call of `sweep::store` by whoever has the table as a `&κ mut [Entry]` and the row's words in a local of its own:
+-- the
 -- table is lent again and the words are lent to be read, each for a lifetime of the call, and both come back.
 -- goes      [the words ws; the table ts; κ's token]  become  [what `store` asks; what comes back after it]
--- comes     what `store` leaves, and what comes back after it, become [the table with the entries stored; κ's token; the
+-- comes     what `store` leaves, and what comes back after it, become [the table with the entries stored; κ's token;
+-- the
 -- words], and its result is a number
 -- stores    both, as one step of a walk: the call, in any context
 -- Rests on `store`'s contract, Lent and Again; assumes `Given`.

@@ -4,12 +4,10 @@
 ghost use mathlib.Core.Path.{_≡_};
 ghost use Prim.Native.Nat.{ℕ, _+_, _*_, _<_, _≤_};
 ghost use lib.ListN.{length};
-ghost use Rattle.form.specs.declared.Body.{Body};
-ghost use Rattle.form.specs.Conflict.{Sound};
-ghost use Rattle.theory.specs.Plan.{Planned, PlanOf};
+ghost use Rattle.theory.specs.Plan.{PlanOf};
 ghost use Rattle.sweep_steps.specs.Answer.{outcomeOf, SweepOwed, OwnTableOwed};
 ghost use Rattle.sweep_steps.specs.Table.{fetched, stored};
-ghost use Rattle.sweep_steps.specs.Drive.{SweptAs};
+ghost use Rattle.sweep_steps.specs.Ends.{Rowed};
 use entries::Entry;
 use sweep_steps::SweepAnswer;
 use sweep_steps::Swept;
@@ -45,7 +43,7 @@ fn store(table: &mut [Entry], from: usize, words: &[u64], entries: usize) -> usi
 // All rows, from the last block down, until one is crowded. With no block nothing is done.
 fn sweep_rows(plan: &[u64], count: usize, table: &mut [Entry]) -> Swept
     requires { ⌜ (0 < count → PlanOf (now plan) count) × (64 * count ≤ length (now table)) ⌝ }
-    ensures { λ r. ⌜ ((body : Body) (cost : ℕ → ℕ → ℕ) → Planned body cost (now (plan .entry)) → Sound body → body .count ≡ count → SweptAs body cost (now (table .entry)) (now (table .exit)) r) × (count ≡ 0 → now (table .exit) ≡ now (table .entry)) ⌝ }
+    ensures { λ r. ⌜ Rowed (now (plan .entry)) count (now (table .entry)) (now (table .exit)) r ⌝ }
 {
     let mut first = [0; 320];
     let mut second = [0; 320];

@@ -291,13 +291,10 @@ module _ (form : List ℕ) (ready : Prepared) (is : PreparedOf form ready) (lent
     module _ (table : List Entry) (swept : Swept) (size : length table ≡ length lent)
         (rowed : Rowed (ready .plan) b lent table swept) (first : List ℕ)
         (first-is : first ≡ rowFetched table 0 (min b 1)) where
-      -- what `fetch` asks
-      pub first-asked : (min b 1 ≤ 64) × ((k : ℕ) → k < min b 1 → 0 + k < length table)
-      first-asked = (omega arith, λ k h. omega (arith, rows-asked .1))
-
       -- row 0's entry, where there is one
       entry : 0 < b → entryAt first 0 ≡ tupleOf (getD table 0 noEntry)
-      entry h = ap (λ l. entryAt l 0) first-is ∙ row-fetched-at zeroRow zero-length table 0 (min b 1) (omega arith) 0 (omega arith) ∙ ap
+      entry h = ap (λ l. entryAt l 0) first-is ∙ row-fetched-at zeroRow zero-length table 0 (min b 1) (omega arith) 0
+          (omega arith) ∙ ap
           (λ i. tupleOf (getD table i noEntry)) (zero-add 0)
 
       -- what `conclude` asks

@@ -1,6 +1,6 @@
 -- The table of entries and the rows in local memory: what `fetch` and `store` do, entry by entry, and that a whole row
 -- stored is the row as document 01 has it. Rests on
--- Answer (what the table is to hold) and rows' Entries.
+-- Answer (what the table is to hold) and entries' Entries.
 use mathlib.Core.Path.{_≡_, refl, sym, ap, ap₂, subst, _∙_}
 use mathlib.Core.Logic.{inl, inr}
 use mathlib.Core.List.{List, [], _∷_, _++_, map, append-assoc, append-nil}
@@ -176,12 +176,6 @@ module _ {A : Type 0} (z : A) (d s : List A) (at n : ℕ) (room : at + n ≤ len
   head-length : length (take at d ++ take n s) ≡ at + n
   head-length = length-append (take at d) (take n s) ∙ omega
       (arith, length-take-le at d (omega arith), length-take-le n s (omega arith))
-
-  pub paste-low : (k : ℕ) → k < at → getD (paste d at s n) k z ≡ getD d k z
-  paste-low k h =
-      List·getD-append (take at d ++ take n s) (drop (at + n) d) z k (omega (arith, head-length))
-      ∙ List·getD-append (take at d) (take n s) z k (omega (arith, length-take-le at d (omega arith)))
-      ∙ getD-take at d k z h
 
   pub paste-in : (k : ℕ) → k < n → getD (paste d at s n) (at + k) z ≡ getD s k z
   paste-in k h =

@@ -1,5 +1,5 @@
 -- The full walk's answer, after document 01, 'Full walk' and 'Refusal numbers'. Trusted: definitions only. Rests on
--- Owed and on theory's Route (walked, a side of the answer and its route, the route's bytes, the bound).
+-- plan's Owed and on theory's Route (walked, a side of the answer and its route, the route's bytes, the bound).
 use mathlib.Core.Bool.{cond}
 use mathlib.Core.List.{List, _++_}
 use mathlib.Core.Option.{Option, none, some}

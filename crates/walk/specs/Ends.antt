@@ -1,5 +1,5 @@
 -- The ends of the full walk: from what is found to what is owed, how large the weight is, and what a start owes. Rests
--- on Answer, Terms, plan's Prepared and theory's words and range.
+-- on Answer, search's Terms, plan's Prepared and theory's words and range.
 use mathlib.Core.Path.{_≡_, refl, sym, ap, subst, _∙_}
 use mathlib.Core.Bool.{Bool, true, false, cond}
 use mathlib.Core.List.{List, _++_}

@@ -1,7 +1,7 @@
 -- What follows from the sweep's promise: where it refuses nothing it is answered with the route (`sweep-answered`), so
 -- no run costs more than the bound (`sweep-sound`); for every input one answer, one content of the lent bytes and one
 -- of the lent table, refusals too (`one-sweep`), also over a table of its own (`one-own`, `own-answered`); and which
--- refusals it gives (`sweep-gives`). Rests on Answered and sweep's Answer.
+-- refusals it gives (`sweep-gives`). Rests on Answered and sweep_steps' Answer.
 use mathlib.Core.Path.{_≡_, refl, sym, ap, subst, _∙_}
 use mathlib.Core.Logic.{_⊎_, inl, inr}
 use mathlib.Core.Bool.{Bool, true, false, cond}

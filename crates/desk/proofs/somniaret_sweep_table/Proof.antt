@@ -275,4 +275,5 @@ somniaret-sweep-table-spec 𝓤 H 𝓜 𝓖 𝓡 =
     (cited 𝓤 H (Sweep 𝓤 H (𝓖 .A) (𝓜 .mem) (𝓡 .run)) 𝓜 𝓡 code.env #sweep·sweep sweep-def.routine code.calls-sweep·sweep
     (sweep-thm.met 𝓤 H 𝓜 𝓖 𝓡))
     (cited 𝓤 H (Numbers 𝓤 H (𝓖 .A) (𝓜 .mem)
-    (𝓡 .run)) 𝓜 𝓡 code.env #numbers·of-sweep numbers-def.routine code.calls-numbers·of-sweep (numbers-thm.met 𝓤 H 𝓜 𝓖 𝓡)))
+    (𝓡 .run)) 𝓜 𝓡 code.env #numbers·of-sweep numbers-def.routine code.calls-numbers·of-sweep
+    (numbers-thm.met 𝓤 H 𝓜 𝓖 𝓡)))

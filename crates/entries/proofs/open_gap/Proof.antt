@@ -1,5 +1,5 @@
--- `entries::open_gap` meets its contract. The loop's invariant: the entries from i on are moved, those up to i are as they
--- were. The measure is i.
+-- `entries::open_gap` meets its contract. The loop's invariant: the entries from i on are moved, those up to i are as
+-- they were. The measure is i.
 use mathlib.Core.Path.{_≡_, sym, ap, subst, _∙_}
 use mathlib.Core.List.{List}
 use Prim.Native.Nat.{ℕ, _-_, _≤_}

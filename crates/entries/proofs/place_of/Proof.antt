@@ -1,5 +1,5 @@
--- `entries::place_of` meets its contract. The loop's invariant: every entry passed has a lower key. The measure is what is
--- left of the entries.
+-- `entries::place_of` meets its contract. The loop's invariant: every entry passed has a lower key. The measure is what
+-- is left of the entries.
 use mathlib.Core.Path.{_≡_, sym, _∙_, ap}
 use mathlib.Core.Bool.{true}
 use Prim.Native.Nat.{ℕ, _-_, _≤_, _<_}

@@ -1,4 +1,4 @@
--- `routes::plan::test_word` meets its contract.
+-- `plan::test_word` meets its contract.
 use borrow.Author.Tests.{eq-eqb, ne-eqb}
 use Rattle.plan.proofs.test_word.Statement.{statement}
 use Rattle.plan.proofs.test_word.Tie as tie

@@ -1,7 +1,7 @@
 -- `sweep::fetch` meets its contract: a walk of its code, by hand, since it has a slice of structs. The loop's
--- invariant: the row has k of the table's entries; the measure is the entries to come. The
--- table's borrow is open all along; the row is lent again for each call of `put_entry`. Rests on specs/Table and the
--- contract of `put_entry`.
+-- invariant: the row has k of the table's entries; the measure is the entries to come. The table's borrow is open all
+-- along; the row is lent again for each call of `put_entry`. Rests on sweep_steps' Table and the contract of
+-- `put_entry`.
 use mathlib.Core.Path.{_≡_, refl, sym, _∙_, subst}
 use Prim.Native.Nat.{ℕ, zero, suc, _+_, _*_, _<_, _≤_, _^_}
 use native.Mathlib.Omega.{arith}

@@ -1,12 +1,13 @@
 -- `sweep::sweep_rows` meets its contract: a walk of its MIR, by hand, since it has a slice of structs. The three rows,
--- its locals, are in memory all along, whatever is in them. The loop's invariant is `Driven` of specs/Driven; a turn is
--- `sources_of`, `fetch` twice, `make`, `store` and `following_of`, with the table and the rows lent for each call. The
--- measure is the blocks to come. Rests on specs/Turn, specs/Driven, proofs/Locals, Fetching, Making and Storing, and the
--- contracts of the callees.
+-- its locals, are in memory all along, whatever is in them. The loop's invariant is `Driven` of sweep_steps' Driven; a
+-- turn is `sources_of`, `fetch` twice, `make`, `store` and `following_of`, with the table and the rows lent for each
+-- call. The measure is the blocks to come. Rests on sweep_steps' Turn and Driven, proofs/Locals, Fetching, Making and
+-- Storing, and the contracts of the callees.
 use mathlib.Core.Path.{_≡_, refl, sym, ap, subst, _∙_}
 use Prim.Native.Nat.{ℕ, _*_, _-_, _<_, _≤_, _^_}
 use mathlib.Core.Bool.{Bool, true, false}
-use mathlib.Core.List.{[], _∷_, List}
+use mathlib.Core.List.{[], _∷_, _++_, List}
+use mathlib.Core.Option.{some as has, none}
 use lib.ListN.{length, getD, replicate}
 use lib.Dec.{lit<}
 use lib.WfN.{Nat·lt-wfRel}
@@ -62,7 +63,7 @@ use Rattle.sweep_steps.specs.declared.Built.{Built}
 use Rattle.sweep_steps.specs.Table.{fetched, fetched-length, stored, stored-length}
 use Rattle.sweep_steps.specs.Turn.{sourcesOf, TurnReady, turnedBy, jump-asked, fall-asked, make-asked, store-asked, turn-made}
 use Rattle.sweep_steps.specs.Driven.{started, following, finished, left, Driven, driven-start, turn-ready, lengths-size, driven-more, left-less}
-use Rattle.sweep.proofs.Locals.{ends, allocs-all, free-all}
+use Rattle.sweep.proofs.Locals.{rooms, ends, allocs-all, spent-all, free-all}
 use Rattle.sweep.proofs.Lent.{arrayTy, repeated-length, repeated-typed, repeated-out, array-in}
 use Rattle.sweep.proofs.Fetching.{Fetch, fetches}
 use Rattle.sweep.proofs.Storing.{Store, stores}
@@ -360,32 +361,34 @@ module _ {M : Type 1} (𝓤 : URA M) (H : Heap 𝓤) (A : Atoms 𝓤) (W : Given
     Words l h = cells (mem-of u64) l h 0
 
     module _ (fits : (k : ℕ) → getD plan k 0 < 2 ^ 64)
-        (l₀ l₁ l₂ l₃ l₄ l₅ l₆ l₇ l₈ l₉ l₁₀ l₁₁ l₁₂ l₁₃ l₁₄ l₁₅ l₁₆ l₁₇ l₁₈ l₁₉ l₂₀ l₂₁ l₂₂ l₂₃ l₂₄ l₂₅ l₂₆ l₂₇ l₂₈ l₂₉ : ℕ) where
+        (l₀ l₁ l₂ l₃ l₄ l₅ l₆ l₇ l₈ l₉ l₁₀ l₁₁ l₁₂ l₁₃ l₁₄ l₁₅ l₁₆ l₁₇ l₁₈ l₁₉ l₂₀ l₂₁ l₂₂ l₂₃ l₂₄ l₂₅ l₂₆ l₂₇ l₂₈ l₂₉
+        : ℕ) where
       -- _0 the result; plan, count, table; _4, _5, _6 the rows; _7 the drive, _8 the sources, _9 what is made, _10 the
       -- test, _11 a number; a pointer and a slice each: _12, _13 the table, _14, _15 the first row; _16, _17 the table,
       -- _18, _19 the second row; _20, _21 and _22, _23 the rows to read, _24, _25 the row to make; _26, _27 the table,
       -- _28, _29 the row to store
+      abbrev Temps : Env 𝓤 H
+      Temps =
+          (sourcesTy, l₈) ∷ (builtTy, l₉) ∷ (tyBool, l₁₀) ∷ (word, l₁₁) ∷ (ptrTy, l₁₂) ∷ (lentTy, l₁₃) ∷
+          (rowPtrTy, l₁₄) ∷ (rowTy, l₁₅) ∷ (ptrTy, l₁₆) ∷ (lentTy, l₁₇) ∷ (rowPtrTy, l₁₈) ∷ (rowTy, l₁₉) ∷
+          (readPtrTy, l₂₀) ∷ (readTy, l₂₁) ∷ (readPtrTy, l₂₂) ∷ (readTy, l₂₃) ∷ (rowPtrTy, l₂₄) ∷ (rowTy, l₂₅) ∷
+          (ptrTy, l₂₆) ∷ (lentTy, l₂₇) ∷ (readPtrTy, l₂₈) ∷ (readTy, l₂₉) ∷ []
+
       abbrev En : Env 𝓤 H
       En =
           (sweptTy, l₀) ∷ (planTy, l₁) ∷ (word, l₂) ∷ (tabTy, l₃) ∷ (wordsTy, l₄) ∷ (wordsTy, l₅) ∷ (wordsTy, l₆) ∷
-          (driveTy, l₇) ∷ (sourcesTy, l₈) ∷ (builtTy, l₉) ∷ (tyBool, l₁₀) ∷ (word, l₁₁) ∷ (ptrTy, l₁₂) ∷
-          (lentTy, l₁₃) ∷ (rowPtrTy, l₁₄) ∷ (rowTy, l₁₅) ∷ (ptrTy, l₁₆) ∷ (lentTy, l₁₇) ∷ (rowPtrTy, l₁₈) ∷
-          (rowTy, l₁₉) ∷ (readPtrTy, l₂₀) ∷ (readTy, l₂₁) ∷ (readPtrTy, l₂₂) ∷ (readTy, l₂₃) ∷ (rowPtrTy, l₂₄) ∷
-          (rowTy, l₂₅) ∷ (ptrTy, l₂₆) ∷ (lentTy, l₂₇) ∷ (readPtrTy, l₂₈) ∷ (readTy, l₂₉) ∷ []
+          (driveTy, l₇) ∷ Temps
 
       -- the drive stands at `at`, the table is ts, and the rows have the words f, g and m in them
-      abbrev At : Drive → List Entry → List ℕ → List ℕ → List ℕ → List (Item 𝓤)
-      At at ts f g m =
+      abbrev Kept : Drive → List Entry → List ℕ → List ℕ → List ℕ → List (Item 𝓤)
+      Kept at ts f g m =
           ‵ (Own₁ ts (length lent)) ∷ ‵ Own₀ ∷ ‵ (flft κ₀ q₀) ∷ ‵ (flft κ₁ q₁) ∷ ‵ (Words f l₄) ∷ ‵ (Words g l₅) ∷
           ‵ (Words m l₆) ∷ ‵ (froom sweptTy l₀ 0) ∷ ‵ (fat fullShare planTy l₁ 0 s₀) ∷
           ‵ (fat fullShare word l₂ 0 (vint w64 count)) ∷ ‵ (fat fullShare tabTy l₃ 0 s₁) ∷
-          ‵ (fat fullShare driveTy l₇ 0 (drive-val at)) ∷ ‵ (froom sourcesTy l₈ 0) ∷ ‵ (froom builtTy l₉ 0) ∷
-          ‵ (froom tyBool l₁₀ 0) ∷ ‵ (froom word l₁₁ 0) ∷ ‵ (froom ptrTy l₁₂ 0) ∷ ‵ (froom lentTy l₁₃ 0) ∷
-          ‵ (froom rowPtrTy l₁₄ 0) ∷ ‵ (froom rowTy l₁₅ 0) ∷ ‵ (froom ptrTy l₁₆ 0) ∷ ‵ (froom lentTy l₁₇ 0) ∷
-          ‵ (froom rowPtrTy l₁₈ 0) ∷ ‵ (froom rowTy l₁₉ 0) ∷ ‵ (froom readPtrTy l₂₀ 0) ∷ ‵ (froom readTy l₂₁ 0) ∷
-          ‵ (froom readPtrTy l₂₂ 0) ∷ ‵ (froom readTy l₂₃ 0) ∷ ‵ (froom rowPtrTy l₂₄ 0) ∷ ‵ (froom rowTy l₂₅ 0) ∷
-          ‵ (froom ptrTy l₂₆ 0) ∷ ‵ (froom lentTy l₂₇ 0) ∷ ‵ (froom readPtrTy l₂₈ 0) ∷ ‵ (froom readTy l₂₉ 0) ∷
-          raw (ends 𝓤 H En) ∷ []
+          ‵ (fat fullShare driveTy l₇ 0 (drive-val at)) ∷ raw (ends 𝓤 H En) ∷ []
+
+      abbrev At : Drive → List Entry → List ℕ → List ℕ → List ℕ → List (Item 𝓤)
+      At at ts f g m = rooms 𝓤 H Temps ++ Kept at ts f g m
 
       abbrev Good : Drive → List Entry → List ℕ → List ℕ → List ℕ → Type 0
       Good at ts f g m = (Driven plan count lent at ts × Is D.the-row at (drive-val at ∷ [])) ×
@@ -412,146 +415,233 @@ module _ {M : Type 1} (𝓤 : URA M) (H : Heap 𝓤) (A : Atoms 𝓤) (W : Given
       Left = afterBlock 𝓤 H (afterSeq 𝓤 H (Wp 𝓤 H C Λ En body.t-6 (atReturn 𝓤 H En Post)) (atReturn 𝓤 H En Post))
 
       -- a turn that makes one row
-      module _ (at : Drive) (ts : List Entry) (f g m : List ℕ) (good : Good at ts f g m) (goes-on : at .going ≡ true) where
-        d : Driven plan count lent at ts
-        d = good .0 .0
+      module _ (at : Drive) (ts : List Entry) (f g m : List ℕ) (good : Good at ts f g m) (goes-on : at .going ≡ true)
+        where
+          d : Driven plan count lent at ts
+          d = good .0 .0
 
-        at-is : Is D.the-row at (drive-val at ∷ [])
-        at-is = good .0 .1
+          at-is : Is D.the-row at (drive-val at ∷ [])
+          at-is = good .0 .1
 
-        f-size : length f ≡ size
-        f-size = good .1 .0
+          f-size : length f ≡ size
+          f-size = good .1 .0
 
-        g-size : length g ≡ size
-        g-size = good .1 .1 .0
+          g-size : length g ≡ size
+          g-size = good .1 .1 .0
 
-        m-size : length m ≡ size
-        m-size = good .1 .1 .1
+          m-size : length m ≡ size
+          m-size = good .1 .1 .1
 
-        same : length ts ≡ length lent
-        same = d .same
+          same : length ts ≡ length lent
+          same = d .same
 
-        room-ts : Room R (length ts)
-        room-ts = subst (Room R) (sym same) room₁
+          room-ts : Room R (length ts)
+          room-ts = subst (Room R) (sym same) room₁
 
-        fm : FmC 𝓤 H (W .laws) C
-        fm = fmOf 𝓤 H (W .laws) 𝓣
+          fm : FmC 𝓤 H (W .laws) C
+          fm = fmOf 𝓤 H (W .laws) 𝓣
 
-        ready : TurnReady plan ts at
-        ready = turn-ready plan count lent fits of enough at ts d goes-on
+          ready : TurnReady plan ts at
+          ready = turn-ready plan count lent fits of enough at ts d goes-on
 
-        asked : ((0 < at .b) × (at .b ≤ 64)) × (length (at .lengths) ≡ 64)
-        asked = ((ready .some, ready .most), lengths-size plan count lent fits of enough at ts d goes-on)
+          asked : ((0 < at .b) × (at .b ≤ 64)) × (length (at .lengths) ≡ 64)
+          asked = ((ready .some, ready .most), lengths-size plan count lent fits of enough at ts d goes-on)
 
-        -- the rows and the table after the turn
-        abbrev first : Sources → List ℕ
-        first r = fetched f ts (r .jump) (r .jumps)
+          -- the rows and the table after the turn
+          abbrev first : Sources → List ℕ
+          first r = fetched f ts (r .jump) (r .jumps)
 
-        abbrev second : Sources → List ℕ
-        second r = fetched g ts (r .fall) (r .falls)
+          abbrev second : Sources → List ℕ
+          second r = fetched g ts (r .fall) (r .falls)
 
-        abbrev table-then : List ℕ × Built → List Entry
-        table-then z = stored ts (z .1 .from) (z .0) (z .1 .entries)
+          abbrev table-then : List ℕ × Built → List Entry
+          table-then z = stored ts (z .1 .from) (z .0) (z .1 .entries)
 
-        first-size : (r : Sources) → length (first r) ≡ size
-        first-size r = fetched-length f ts (r .jump) (r .jumps) ∙ f-size
+          first-size : (r : Sources) → length (first r) ≡ size
+          first-size r = fetched-length f ts (r .jump) (r .jumps) ∙ f-size
 
-        second-size : (r : Sources) → length (second r) ≡ size
-        second-size r = fetched-length g ts (r .fall) (r .falls) ∙ g-size
+          second-size : (r : Sources) → length (second r) ≡ size
+          second-size r = fetched-length g ts (r .fall) (r .falls) ∙ g-size
 
-        -- the next state is good, and nearer to the end
-        module _ (z : List ℕ × Built) (r : Sources) (is : Made κ₀ q₀ γ₀ b₀ o₀ plan count r (first r) l₄ (second r) l₅ m l₆ z)
-            (e : r ≡ sourcesOf plan (at .lengths) (at .b - 1)) where
-          turned : turnedBy plan count at ts (table-then z) (z .1 .held)
-          turned = turn-made plan count at ts ready r e f f-size g g-size (z .0) (z .1) is (table-then z) refl
+          -- the next state is good, and nearer to the end
+          module _ (z : List ℕ × Built) (r : Sources) (is : Made κ₀ q₀ γ₀ b₀ o₀ plan count r (first r) l₄ (second r)
+              l₅ m
+              l₆ z)
+              (e : r ≡ sourcesOf plan (at .lengths) (at .b - 1)) where
+            turned : turnedBy plan count at ts (table-then z) (z .1 .held)
+            turned = turn-made plan count at ts ready r e f f-size g g-size (z .0) (z .1) is (table-then z) refl
 
-          table-size : length (table-then z) ≡ length ts
-          table-size = stored-length ts (z .1 .from) (z .0) (z .1 .entries)
+            table-size : length (table-then z) ≡ length ts
+            table-size = stored-length ts (z .1 .from) (z .0) (z .1 .entries)
 
-          driven : (next : Drive) → next ≡ following at (z .1 .held) → Driven plan count lent next (table-then z)
-          driven next en = subst (λ (y : Drive). Driven plan count lent y (table-then z)) (sym en)
-              (driven-more plan count lent fits of enough at ts d goes-on (table-then z) (z .1 .held) table-size turned)
+            driven : (next : Drive) → next ≡ following at (z .1 .held) → Driven plan count lent next (table-then z)
+            driven next en = subst (λ (y : Drive). Driven plan count lent y (table-then z)) (sym en)
+                (driven-more plan count lent fits of enough at ts d goes-on (table-then z) (z .1 .held) table-size
+                turned)
 
-          less : (next : Drive) → next ≡ following at (z .1 .held) → left next < left at
-          less next en = subst (λ (y : Drive). left y < left at) (sym en)
-              (left-less plan count lent fits of enough at ts d goes-on (table-then z) (z .1 .held) table-size turned)
+            less : (next : Drive) → next ≡ following at (z .1 .held) → left next < left at
+            less next en = subst (λ (y : Drive). left y < left at) (sym en)
+                (left-less plan count lent fits of enough at ts d goes-on (table-then z) (z .1 .held) table-size turned)
 
-        more : (X : SProp 𝓤) → ((z : State) → GoodState z → left (z .0) < left at → ent 𝓤 (⋆ 𝓤 H A (AtState z)) X)
-            → ent 𝓤 (⋆ 𝓤 H A (At at ts f g m)) (Wp 𝓤 H C Λ En body.turn-1 (afterTurn 𝓤 H X Left))
-        unfolding afterTurn
-        more X then =
-            qed W (At at ts f g m) ∵ exec ! C Λ En body.turn-1 (anyQ (afterTurn 𝓤 H X Left)) $
-            assigns ! (of-opd ! (load ! (from ! (fld ! refl (stop !))) (look-in ! 11 (sub ! 0 refl (whole !))))) (from ! (stop !)) (init ! 14 refl (tt, tt)) $
-            rewrite ! 14 (λ (t : Bool). ‵ (fat fullShare tyBool l₁₀ 0 (vbool t))) goes-on refl $
-            stays ! (load ! (from ! (stop !)) (look ! 14 refl)) $
-            -- `sources_of`, with a copy of what the plan owns
-            move ! (1 ∷ []) $ use1 W (‵ Own₀ ⊛ ‵ Own₀) (shr-slice-copy 𝓤 H A W (named 0) κ₀ u64 .twice x₀ (s₀ ∷ [])) $ split ! $
-            move ! (3 ∷ 0 ∷ []) $ use2 W (raw (SourcesOf 𝓤 H A mem run .pre (to-sources at))) (goes-sources at ts at-is ready) $
-            calls-at ! fm (SourcesOf 𝓤 H A mem run) known-sources (to-sources at) (and-then ! (load ! (from ! (stop !)) (look ! 8 refl)) (and-then ! (load ! (from ! (stop !)) (look ! 11 refl)) (no-more !))) (λ w.
-            use1 W (later (some (λ (r : Sources). ((‵ (flft κ₀ q₀) ⊛ ‵ ftrue) ⊛ ‵ (S.the-row .own r (w ∷ []))) ⊛ raw
-            (ensured 𝓤 H A the-sources.ended (the-sources.clauses 𝓤 H A mem run) (κ₀, tt) (x₀, (at, tt)) tt r))))
-            (id⊢ 𝓤 _) $ await ! tt $ pick ! (λ r. split ! $ move ! (1 ∷ []) $
-            use1 W (raw (fact 𝓤 (r ≡ sourcesOf plan (at .lengths) (at .b - 1)))) (sources-told at r) $ heard !
-            (r ≡ sourcesOf plan (at .lengths) (at .b - 1)) (λ e. split ! $ move ! (1 ∷ []) $ peeks ! S.the-row (Is S.the-row)
-            (shows 𝓤 H A S.the-row) r (w ∷ []) (λ is.
-            land ! (from ! (stop !)) (init ! 13 refl (LL.lawful S.the-type S′.the-laws 𝓤 H A W .typed r _ is .0)) $ drop ! $ split ! $
-            rewrite ! 13 (λ (v : Val). ‵ (fat fullShare sourcesTy l₈ 0 v)) (ap only (LL.tells S.the-type S′.the-laws r _ is)) refl $
-            -- `fetch` of the jump target's row
-            assigns ! (addr ! (from ! (fld ! refl (hop ! (look-in ! 11 (sub ! 0 refl (whole !))) (stop !))))) (from ! (stop !)) (init ! 17 refl (tt, tt)) $
-            assigns ! (agg ! (and-then ! (load ! (from ! (stop !)) (look ! 17 refl)) (and-then ! (load ! (from ! (fld ! refl (stop !))) (look-in ! 11 (sub ! 1 refl (whole !)))) (no-more !)))) (from ! (stop !)) (init ! 18 refl (tt, (tt, (record { fits = room₁ .0 }, tt)))) $
-            assigns ! (addr ! (from ! (stop !))) (from ! (stop !)) (init ! 19 refl (tt, tt)) $
-            assigns ! (agg ! (and-then ! (load ! (from ! (stop !)) (look ! 19 refl)) (and-then ! (lit ! tt) (no-more !)))) (from ! (stop !)) (init ! 20 refl (tt, (tt, (record { fits = lit< tt }, tt)))) $
-            move ! (5 ∷ 3 ∷ 4 ∷ []) $ fetches κ₁ q₁ γ₁ b₁ o₁ ts (length lent) (r .jump) (r .jumps) f l₄ 𝓤 H A mem run W
-            (named 1) same ! fm known-fetch room-ts (jump-fits r w is) (jumps-fit r w is) f-size (jump-asked plan count at ts ready r e)
-            (λ _. (and-then ! (load ! (from ! (stop !)) (look ! 17 refl)) (and-then ! (load ! (from ! (fld ! refl (stop !))) (look-in ! 12 (sub ! 1 refl (whole !)))) (and-then ! (load ! (from ! (fld ! refl (stop !))) (look-in ! 12 (sub ! 2 refl (whole !)))) (and-then ! (load ! (from ! (stop !)) (look ! 19 refl)) (no-more !))))))
-            (λ w₁ n₁ is₁. land ! (from ! (stop !)) (init ! 16 refl (uint-lawful 𝓤 H A W w64 .typed n₁ _ is₁ .0)) $
-            -- and of the fall target's
-            assigns ! (addr ! (from ! (fld ! refl (hop ! (look-in ! 11 (sub ! 0 refl (whole !))) (stop !))))) (from ! (stop !)) (init ! 21 refl (tt, tt)) $
-            assigns ! (agg ! (and-then ! (load ! (from ! (stop !)) (look ! 21 refl)) (and-then ! (load ! (from ! (fld ! refl (stop !))) (look-in ! 11 (sub ! 1 refl (whole !)))) (no-more !)))) (from ! (stop !)) (init ! 22 refl (tt, (tt, (record { fits = room₁ .0 }, tt)))) $
-            assigns ! (addr ! (from ! (stop !))) (from ! (stop !)) (init ! 23 refl (tt, tt)) $
-            assigns ! (agg ! (and-then ! (load ! (from ! (stop !)) (look ! 23 refl)) (and-then ! (lit ! tt) (no-more !)))) (from ! (stop !)) (init ! 24 refl (tt, (tt, (record { fits = lit< tt }, tt)))) $
-            move ! (6 ∷ 0 ∷ 1 ∷ []) $ fetches κ₁ q₁ γ₁ b₁ o₁ ts (length lent) (r .fall) (r .falls) g l₅ 𝓤 H A mem run W
-            (named 1) same ! fm known-fetch room-ts (fall-fits r w is) (falls-fit r w is) g-size (fall-asked plan count at ts ready r e)
-            (λ _. (and-then ! (load ! (from ! (stop !)) (look ! 21 refl)) (and-then ! (load ! (from ! (fld ! refl (stop !))) (look-in ! 12 (sub ! 3 refl (whole !)))) (and-then ! (load ! (from ! (fld ! refl (stop !))) (look-in ! 12 (sub ! 4 refl (whole !)))) (and-then ! (load ! (from ! (stop !)) (look ! 23 refl)) (no-more !))))))
-            (λ w₂ n₂ is₂. land ! (from ! (stop !)) (store ! 16 refl (uint-lawful 𝓤 H A W w64 .typed n₂ _ is₂ .0)) $
-            -- `make`
-            assigns ! (addr ! (from ! (stop !))) (from ! (stop !)) (init ! 25 refl (tt, tt)) $
-            assigns ! (agg ! (and-then ! (load ! (from ! (stop !)) (look ! 25 refl)) (and-then ! (lit ! tt) (no-more !)))) (from ! (stop !)) (init ! 26 refl (tt, (tt, (record { fits = lit< tt }, tt)))) $
-            assigns ! (addr ! (from ! (stop !))) (from ! (stop !)) (init ! 27 refl (tt, tt)) $
-            assigns ! (agg ! (and-then ! (load ! (from ! (stop !)) (look ! 27 refl)) (and-then ! (lit ! tt) (no-more !)))) (from ! (stop !)) (init ! 28 refl (tt, (tt, (record { fits = lit< tt }, tt)))) $
-            assigns ! (addr ! (from ! (stop !))) (from ! (stop !)) (init ! 29 refl (tt, tt)) $
-            assigns ! (agg ! (and-then ! (load ! (from ! (stop !)) (look ! 29 refl)) (and-then ! (lit ! tt) (no-more !)))) (from ! (stop !)) (init ! 30 refl (tt, (tt, (record { fits = lit< tt }, tt)))) $
-            move ! (4 ∷ 6 ∷ 3 ∷ 2 ∷ 7 ∷ []) $ makes κ₀ q₀ γ₀ b₀ o₀ plan count r (first r) l₄ (second r) l₅ m l₆ 𝓤 H A mem run W !
-            fm known-make count-fits (sources-are r w is) (first-size r) (second-size r) m-size
-            (make-asked plan count at ts ready r e f f-size g g-size)
-            (λ _. (and-then ! (load ! (from ! (stop !)) (look ! 6 refl)) (and-then ! (load ! (from ! (stop !)) (look ! 7 refl)) (and-then ! (load ! (from ! (stop !)) (look ! 10 refl)) (and-then ! (load ! (from ! (stop !)) (look ! 23 refl)) (and-then ! (load ! (from ! (stop !)) (look ! 25 refl)) (and-then ! (load ! (from ! (stop !)) (look ! 27 refl)) (no-more !))))))))
-            (λ w₃ z known. land ! (from ! (stop !)) (init ! 14 refl (LL.lawful B.the-type B′.the-laws 𝓤 H A W .typed (z .1) _ (known .1 .1) .0)) $
-            rewrite ! 14 (λ (v : Val). ‵ (fat fullShare builtTy l₉ 0 v)) (ap only (LL.tells B.the-type B′.the-laws (z .1) _ (known .1 .1))) refl $
-            -- `store`
-            assigns ! (addr ! (from ! (fld ! refl (hop ! (look-in ! 11 (sub ! 0 refl (whole !))) (stop !))))) (from ! (stop !)) (init ! 31 refl (tt, tt)) $
-            assigns ! (agg ! (and-then ! (load ! (from ! (stop !)) (look ! 31 refl)) (and-then ! (load ! (from ! (fld ! refl (stop !))) (look-in ! 11 (sub ! 1 refl (whole !)))) (no-more !)))) (from ! (stop !)) (init ! 32 refl (tt, (tt, (record { fits = room₁ .0 }, tt)))) $
-            assigns ! (addr ! (from ! (stop !))) (from ! (stop !)) (init ! 33 refl (tt, tt)) $
-            assigns ! (agg ! (and-then ! (load ! (from ! (stop !)) (look ! 33 refl)) (and-then ! (lit ! tt) (no-more !)))) (from ! (stop !)) (init ! 34 refl (tt, (tt, (record { fits = lit< tt }, tt)))) $
-            move ! (4 ∷ 5 ∷ 6 ∷ []) $ stores κ₁ q₁ γ₁ b₁ o₁ ts (length lent) (z .1 .from) (z .1 .entries) (z .0) l₆ 𝓤 H A mem run
-            W (named 1) same ! fm known-store room-ts (from-fits (z .1) w₃ (known .1 .1)) (entries-fit (z .1) w₃ (known .1 .1))
-            (known .0) (store-asked plan count at ts ready r e f f-size g g-size (z .0) (z .1) (known .1 .0))
-            (λ _. (and-then ! (load ! (from ! (stop !)) (look ! 31 refl)) (and-then ! (load ! (from ! (fld ! refl (stop !))) (look-in ! 13 (sub ! 1 refl (whole !)))) (and-then ! (load ! (from ! (stop !)) (look ! 33 refl)) (and-then ! (load ! (from ! (fld ! refl (stop !))) (look-in ! 13 (sub ! 2 refl (whole !)))) (no-more !))))))
-            (λ w₄ n₄ is₄. land ! (from ! (stop !)) (store ! 16 refl (uint-lawful 𝓤 H A W w64 .typed n₄ _ is₄ .0)) $
-            -- `following_of`
-            use0 W (raw (Following 𝓤 H A mem run .pre (to-following at (z .1 .held))))
-            (goes-following at (z .1 .held) at-is (held-fits (z .1) w₃ (known .1 .1)) asked) $
-            calls-at-last ! fm (Following 𝓤 H A mem run) known-following (to-following at (z .1 .held)) (and-then ! (load ! (from ! (stop !)) (look ! 13 refl)) (and-then ! (load ! (from ! (fld ! refl (stop !))) (look-in ! 15 (sub ! 0 refl (whole !)))) (no-more !))) (λ v.
-            use1 W (later (some (λ (next : Drive). (‵ ftrue ⊛ ‵ (D.the-row .own next (v ∷ []))) ⊛ raw (ensured 𝓤 H A the-following.ended
-            (the-following.clauses 𝓤 H A mem run) tt (at, (z .1 .held, tt)) tt next)))) (id⊢ 𝓤 _) $ await ! tt $ pick ! (λ next.
-            split ! $ move ! (1 ∷ []) $ use1 W (raw (fact 𝓤 (next ≡ following at (z .1 .held))))
-            (following-told at (z .1 .held) next) $ heard ! (next ≡ following at (z .1 .held)) (λ en.
-            split ! $ move ! (1 ∷ []) $ peeks ! D.the-row (Is D.the-row) (shows 𝓤 H A D.the-row) next (v ∷ []) (λ is-n.
-            land-last ! (from ! (stop !)) (store ! 14 refl (LL.lawful D.the-type D′.the-laws 𝓤 H A W .typed next _ is-n .0)) $
-            rewrite ! 14 (λ (u : Val). ‵ (fat fullShare driveTy l₇ 0 u)) (ap only (LL.tells D.the-type D′.the-laws next _ is-n)) refl $
-            forget ! 15 refl $ forget ! 16 refl $ forget ! 17 refl $ forget ! 18 refl $ forget ! 19 refl $ forget ! 20 refl $ forget ! 21 refl $ forget ! 22 refl $ forget ! 23 refl $ forget ! 24 refl $ forget ! 25 refl $ forget ! 26 refl $ forget ! 27 refl $ forget ! 28 refl $ forget ! 29 refl $ forget ! 30 refl $ forget ! 31 refl $ forget ! 32 refl $ forget ! 33 refl $ forget ! 34 refl $ forget ! 35 refl $ forget ! 36 refl $
-            keep ! (2 ∷ 6 ∷ 5 ∷ 3 ∷ 7 ∷ 8 ∷ 4 ∷ 10 ∷ 11 ∷ 12 ∷ 13 ∷ 14 ∷ 15 ∷ 16 ∷ 17 ∷ 18 ∷ 19 ∷ 20 ∷ 21 ∷ 22 ∷ 23 ∷ 24 ∷ 25 ∷ 26 ∷ 27 ∷ 28 ∷ 29 ∷ 30 ∷ 31 ∷ 32 ∷ 33 ∷ 34 ∷ 35 ∷ 36 ∷ 37 ∷ []) $ by ! (then (next, (table-then z, (first r, (second r, z .0))))
-            ((driven z r (known .1 .0) e next en, drive-is next v is-n), (first-size r, (second-size r, known .0)))
-            (less z r (known .1 .0) e next en))))))))))))))
+          more : (X : SProp 𝓤) → ((z : State) → GoodState z → left (z .0) < left at → ent 𝓤 (⋆ 𝓤 H A (AtState z)) X)
+              → ent 𝓤 (⋆ 𝓤 H A (At at ts f g m)) (Wp 𝓤 H C Λ En body.turn-1 (afterTurn 𝓤 H X Left))
+          unfolding afterTurn
+          more X then =
+              qed W (At at ts f g m) ∵ exec ! C Λ En body.turn-1 (anyQ (afterTurn 𝓤 H X Left)) $
+              assigns ! (of-opd ! (load ! (from ! (fld ! refl (stop !))) (look-in ! 33 (sub ! 0 refl (whole !)))))
+              (from !
+              (stop !)) (init ! 2 refl (tt, tt)) $
+              rewrite ! 2 (λ (t : Bool). ‵ (fat fullShare tyBool l₁₀ 0 (vbool t))) goes-on refl $
+              stays ! (load ! (from ! (stop !)) (look ! 2 refl)) $
+              -- `sources_of`, with a copy of what the plan owns
+              move ! (23 ∷ []) $ use1 W (‵ Own₀ ⊛ ‵ Own₀) (shr-slice-copy 𝓤 H A W (named 0) κ₀ u64 .twice x₀ (s₀ ∷
+              [])) $
+              split ! $
+              move ! (25 ∷ 0 ∷ []) $ use2 W (raw (SourcesOf 𝓤 H A mem run .pre (to-sources at))) (goes-sources at ts
+              at-is
+              ready) $
+              calls-at ! fm (SourcesOf 𝓤 H A mem run) known-sources (to-sources at) (and-then ! (load ! (from ! (stop
+              !))
+              (look ! 30 refl)) (and-then ! (load ! (from ! (stop !)) (look ! 33 refl)) (no-more !))) (λ w.
+              use1 W (later (some (λ (r : Sources). ((‵ (flft κ₀ q₀) ⊛ ‵ ftrue) ⊛ ‵ (S.the-row .own r (w ∷ []))) ⊛ raw
+              (ensured 𝓤 H A the-sources.ended (the-sources.clauses 𝓤 H A mem run) (κ₀, tt) (x₀, (at, tt)) tt r))))
+              (id⊢ 𝓤 _) $ await ! tt $ pick ! (λ r. split ! $ move ! (1 ∷ []) $
+              use1 W (raw (fact 𝓤 (r ≡ sourcesOf plan (at .lengths) (at .b - 1)))) (sources-told at r) $ heard !
+              (r ≡ sourcesOf plan (at .lengths) (at .b - 1)) (λ e. split ! $ move ! (1 ∷ []) $ peeks ! S.the-row (Is
+              S.the-row)
+              (shows 𝓤 H A S.the-row) r (w ∷ []) (λ is.
+              land ! (from ! (stop !)) (init ! 3 refl (LL.lawful S.the-type S′.the-laws 𝓤 H A W .typed r _ is .0)) $
+              drop !
+              $ split ! $
+              rewrite ! 3 (λ (v : Val). ‵ (fat fullShare sourcesTy l₈ 0 v)) (ap only (LL.tells S.the-type S′.the-laws
+              r _
+              is)) refl $
+              -- `fetch` of the jump target's row
+              assigns ! (addr ! (from ! (fld ! refl (hop ! (look-in ! 33 (sub ! 0 refl (whole !))) (stop !))))) (from !
+              (stop !)) (init ! 7 refl (tt, tt)) $
+              assigns ! (agg ! (and-then ! (load ! (from ! (stop !)) (look ! 7 refl)) (and-then ! (load ! (from ! (fld !
+              refl (stop !))) (look-in ! 33 (sub ! 1 refl (whole !)))) (no-more !)))) (from ! (stop !)) (init ! 8 refl (
+                tt,
+                (tt, (record { fits = room₁ .0 }, tt)),
+              )) $
+              assigns ! (addr ! (from ! (stop !))) (from ! (stop !)) (init ! 9 refl (tt, tt)) $
+              assigns ! (agg ! (and-then ! (load ! (from ! (stop !)) (look ! 9 refl)) (and-then ! (lit ! tt) (no-more
+              !))))
+              (from ! (stop !)) (init ! 10 refl (tt, (tt, (record { fits = lit< tt }, tt)))) $
+              move ! (27 ∷ 25 ∷ 26 ∷ []) $ fetches κ₁ q₁ γ₁ b₁ o₁ ts (length lent) (r .jump) (r .jumps) f l₄ 𝓤 H A
+              mem run W
+              (named 1) same ! fm known-fetch room-ts (jump-fits r w is) (jumps-fit r w is) f-size (jump-asked plan
+              count
+              at ts ready r e)
+              (λ _. (and-then ! (load ! (from ! (stop !)) (look ! 10 refl)) (and-then ! (load ! (from ! (fld ! refl
+              (stop
+              !))) (look-in ! 5 (sub ! 1 refl (whole !)))) (and-then ! (load ! (from ! (fld ! refl (stop !)))
+              (look-in ! 5
+              (sub ! 2 refl (whole !)))) (and-then ! (load ! (from ! (stop !)) (look ! 12 refl)) (no-more !))))))
+              (λ w₁ n₁ is₁. land ! (from ! (stop !)) (init ! 9 refl (uint-lawful 𝓤 H A W w64 .typed n₁ _ is₁ .0)) $
+              -- and of the fall target's
+              assigns ! (addr ! (from ! (fld ! refl (hop ! (look-in ! 33 (sub ! 0 refl (whole !))) (stop !))))) (from !
+              (stop !)) (init ! 14 refl (tt, tt)) $
+              assigns ! (agg ! (and-then ! (load ! (from ! (stop !)) (look ! 14 refl)) (and-then ! (load ! (from !
+              (fld !
+              refl (stop !))) (look-in ! 33 (sub ! 1 refl (whole !)))) (no-more !)))) (from ! (stop !)) (init ! 15 refl
+              (tt, (tt, (record { fits = room₁ .0 }, tt)))) $
+              assigns ! (addr ! (from ! (stop !))) (from ! (stop !)) (init ! 16 refl (tt, tt)) $
+              assigns ! (agg ! (and-then ! (load ! (from ! (stop !)) (look ! 16 refl)) (and-then ! (lit ! tt) (no-more
+              !)))) (from ! (stop !)) (init ! 17 refl (tt, (tt, (record { fits = lit< tt }, tt)))) $
+              move ! (28 ∷ 0 ∷ 1 ∷ []) $ fetches κ₁ q₁ γ₁ b₁ o₁ ts (length lent) (r .fall) (r .falls) g l₅ 𝓤 H A mem
+              run W
+              (named 1) same ! fm known-fetch room-ts (fall-fits r w is) (falls-fit r w is) g-size (fall-asked plan
+              count
+              at ts ready r e)
+              (λ _. (and-then ! (load ! (from ! (stop !)) (look ! 15 refl)) (and-then ! (load ! (from ! (fld ! refl
+              (stop
+              !))) (look-in ! 6 (sub ! 3 refl (whole !)))) (and-then ! (load ! (from ! (fld ! refl (stop !)))
+              (look-in ! 6
+              (sub ! 4 refl (whole !)))) (and-then ! (load ! (from ! (stop !)) (look ! 17 refl)) (no-more !))))))
+              (λ w₂ n₂ is₂. land ! (from ! (stop !)) (store ! 10 refl (uint-lawful 𝓤 H A W w64 .typed n₂ _ is₂ .0)) $
+              -- `make`
+              assigns ! (addr ! (from ! (stop !))) (from ! (stop !)) (init ! 19 refl (tt, tt)) $
+              assigns ! (agg ! (and-then ! (load ! (from ! (stop !)) (look ! 19 refl)) (and-then ! (lit ! tt) (no-more
+              !)))) (from ! (stop !)) (init ! 20 refl (tt, (tt, (record { fits = lit< tt }, tt)))) $
+              assigns ! (addr ! (from ! (stop !))) (from ! (stop !)) (init ! 21 refl (tt, tt)) $
+              assigns ! (agg ! (and-then ! (load ! (from ! (stop !)) (look ! 21 refl)) (and-then ! (lit ! tt) (no-more
+              !)))) (from ! (stop !)) (init ! 22 refl (tt, (tt, (record { fits = lit< tt }, tt)))) $
+              assigns ! (addr ! (from ! (stop !))) (from ! (stop !)) (init ! 23 refl (tt, tt)) $
+              assigns ! (agg ! (and-then ! (load ! (from ! (stop !)) (look ! 23 refl)) (and-then ! (lit ! tt) (no-more
+              !)))) (from ! (stop !)) (init ! 24 refl (tt, (tt, (record { fits = lit< tt }, tt)))) $
+              move ! (4 ∷ 6 ∷ 3 ∷ 2 ∷ 29 ∷ []) $ makes κ₀ q₀ γ₀ b₀ o₀ plan count r (first r) l₄ (second r) l₅ m l₆ 𝓤 H A
+              mem run W !
+              fm known-make count-fits (sources-are r w is) (first-size r) (second-size r) m-size
+              (make-asked plan count at ts ready r e f f-size g g-size)
+              (λ _. (and-then ! (load ! (from ! (stop !)) (look ! 28 refl)) (and-then ! (load ! (from ! (stop !))
+              (look !
+              29 refl)) (and-then ! (load ! (from ! (stop !)) (look ! 5 refl)) (and-then ! (load ! (from ! (stop !))
+              (look
+              ! 18 refl)) (and-then ! (load ! (from ! (stop !)) (look ! 20 refl)) (and-then ! (load ! (from ! (stop !))
+              (look ! 22 refl)) (no-more !))))))))
+              (λ w₃ z known. land ! (from ! (stop !)) (init ! 9 refl (LL.lawful B.the-type B′.the-laws 𝓤 H A W .typed (z
+              .1) _ (known .1 .1) .0)) $
+              rewrite ! 9 (λ (v : Val). ‵ (fat fullShare builtTy l₉ 0 v)) (ap only (LL.tells B.the-type B′.the-laws
+              (z .1)
+              _ (known .1 .1))) refl $
+              -- `store`
+              assigns ! (addr ! (from ! (fld ! refl (hop ! (look-in ! 33 (sub ! 0 refl (whole !))) (stop !))))) (from !
+              (stop !)) (init ! 26 refl (tt, tt)) $
+              assigns ! (agg ! (and-then ! (load ! (from ! (stop !)) (look ! 26 refl)) (and-then ! (load ! (from !
+              (fld !
+              refl (stop !))) (look-in ! 33 (sub ! 1 refl (whole !)))) (no-more !)))) (from ! (stop !)) (init ! 27 refl
+              (tt, (tt, (record { fits = room₁ .0 }, tt)))) $
+              assigns ! (addr ! (from ! (stop !))) (from ! (stop !)) (init ! 28 refl (tt, tt)) $
+              assigns ! (agg ! (and-then ! (load ! (from ! (stop !)) (look ! 28 refl)) (and-then ! (lit ! tt) (no-more
+              !)))) (from ! (stop !)) (init ! 29 refl (tt, (tt, (record { fits = lit< tt }, tt)))) $
+              move ! (4 ∷ 5 ∷ 6 ∷ []) $ stores κ₁ q₁ γ₁ b₁ o₁ ts (length lent) (z .1 .from) (z .1 .entries) (z .0) l₆
+              𝓤 H A
+              mem run
+              W (named 1) same ! fm known-store room-ts (from-fits (z .1) w₃ (known .1 .1)) (entries-fit (z .1) w₃
+              (known
+              .1 .1))
+              (known .0) (store-asked plan count at ts ready r e f f-size g g-size (z .0) (z .1) (known .1 .0))
+              (λ _. (and-then ! (load ! (from ! (stop !)) (look ! 26 refl)) (and-then ! (load ! (from ! (fld ! refl
+              (stop
+              !))) (look-in ! 8 (sub ! 1 refl (whole !)))) (and-then ! (load ! (from ! (stop !)) (look ! 28 refl))
+              (and-then ! (load ! (from ! (fld ! refl (stop !))) (look-in ! 8 (sub ! 2 refl (whole !)))) (no-more
+              !))))))
+              (λ w₄ n₄ is₄. land ! (from ! (stop !)) (store ! 11 refl (uint-lawful 𝓤 H A W w64 .typed n₄ _ is₄ .0)) $
+              -- `following_of`
+              use0 W (raw (Following 𝓤 H A mem run .pre (to-following at (z .1 .held))))
+              (goes-following at (z .1 .held) at-is (held-fits (z .1) w₃ (known .1 .1)) asked) $
+              calls-at-last ! fm (Following 𝓤 H A mem run) known-following (to-following at (z .1 .held)) (and-then !
+              (load
+              ! (from ! (stop !)) (look ! 35 refl)) (and-then ! (load ! (from ! (fld ! refl (stop !))) (look-in ! 10
+              (sub !
+              0 refl (whole !)))) (no-more !))) (λ v.
+              use1 W (later (some (λ (next : Drive). (‵ ftrue ⊛ ‵ (D.the-row .own next (v ∷ []))) ⊛ raw (ensured 𝓤 H A
+              the-following.ended
+              (the-following.clauses 𝓤 H A mem run) tt (at, (z .1 .held, tt)) tt next)))) (id⊢ 𝓤 _) $ await ! tt $
+              pick !
+              (λ next.
+              split ! $ move ! (1 ∷ []) $ use1 W (raw (fact 𝓤 (next ≡ following at (z .1 .held))))
+              (following-told at (z .1 .held) next) $ heard ! (next ≡ following at (z .1 .held)) (λ en.
+              split ! $ move ! (1 ∷ []) $ peeks ! D.the-row (Is D.the-row) (shows 𝓤 H A D.the-row) next (v ∷ []) (λ
+              is-n.
+              land-last ! (from ! (stop !)) (store ! 36 refl (LL.lawful D.the-type D′.the-laws 𝓤 H A W .typed next _
+              is-n
+              .0)) $
+              rewrite ! 36 (λ (u : Val). ‵ (fat fullShare driveTy l₇ 0 u)) (ap only (LL.tells D.the-type D′.the-laws
+              next _
+              is-n)) refl $
+              keep ! (10 ∷ 11 ∷ 12 ∷ 13 ∷ 14 ∷ 15 ∷ 16 ∷ 17 ∷ 18 ∷ 19 ∷ 20 ∷ 21 ∷ 22 ∷ 23 ∷ 24 ∷ 25 ∷ 26 ∷ 27 ∷ 28 ∷
+              29 ∷
+              30 ∷ 31 ∷ 2 ∷ 6 ∷ 5 ∷ 3 ∷ 7 ∷ 8 ∷ 4 ∷ 32 ∷ 33 ∷ 34 ∷ 35 ∷ 36 ∷ 37 ∷ []) $ by ! (spent-all 𝓤 H A W Temps
+              (has
+              _ ∷ has _ ∷ has _ ∷ has _ ∷ has _ ∷ has _ ∷ has _ ∷ has _ ∷ has _ ∷ has _ ∷ has _ ∷ has _ ∷ has _ ∷ has
+              _ ∷
+              has _ ∷ has _ ∷ has _ ∷ has _ ∷ has _ ∷ has _ ∷ has _ ∷ has _ ∷ []) (Kept next (table-then z) (first r)
+              (second r) (z .0)) X
+              (then (next, (table-then z, (first r, (second r, z .0))))
+              ((driven z r (known .1 .0) e next en, drive-is next v is-n), (first-size r, (second-size r, known .0)))
+              (less z r (known .1 .0) e next en)))))))))))))))
 
       -- the turn that leaves the loop, and the rest of the body
       leaves : (at : Drive) (ts : List Entry) (f g m : List ℕ) (X : SProp 𝓤) → Good at ts f g m → at .going ≡ false
@@ -559,27 +649,33 @@ module _ {M : Type 1} (𝓤 : URA M) (H : Heap 𝓤) (A : Atoms 𝓤) (W : Given
       unfolding afterTurn
       leaves at ts f g m X good ended =
           qed W (At at ts f g m) ∵ exec ! C Λ En body.turn-1 (anyQ (afterTurn 𝓤 H X Left)) $
-          assigns ! (of-opd ! (load ! (from ! (fld ! refl (stop !))) (look-in ! 11 (sub ! 0 refl (whole !))))) (from ! (stop !)) (init ! 14 refl (tt, tt)) $
-          rewrite ! 14 (λ (t : Bool). ‵ (fat fullShare tyBool l₁₀ 0 (vbool t))) ended refl $
-          leaves-loop ! (load ! (from ! (stop !)) (look ! 14 refl)) $ exec ! C Λ En body.t-6 (atRet En Post) $
+          assigns ! (of-opd ! (load ! (from ! (fld ! refl (stop !))) (look-in ! 33 (sub ! 0 refl (whole !))))) (from !
+          (stop !)) (init ! 2 refl (tt, tt)) $
+          rewrite ! 2 (λ (t : Bool). ‵ (fat fullShare tyBool l₁₀ 0 (vbool t))) ended refl $
+          leaves-loop ! (load ! (from ! (stop !)) (look ! 2 refl)) $ exec ! C Λ En body.t-6 (atRet En Post) $
           use0 W (raw (Finish 𝓤 H A mem run .pre (to-finish at))) (goes-finish at (good .0 .1) (good .0 .0 .some)) $
-          calls-at ! (fmOf 𝓤 H (W .laws) 𝓣) (Finish 𝓤 H A mem run) known-finish (to-finish at) (and-then ! (load ! (from ! (stop !)) (look ! 12 refl)) (no-more !)) (λ w.
+          calls-at ! (fmOf 𝓤 H (W .laws) 𝓣) (Finish 𝓤 H A mem run) known-finish (to-finish at) (and-then ! (load !
+          (from ! (stop !)) (look ! 34 refl)) (no-more !)) (λ w.
           use1 W (later (some (λ (r : Swept). (‵ ftrue ⊛ ‵ (E.the-row .own r (w ∷ []))) ⊛ raw
           (ensured 𝓤 H A the-finish.ended (the-finish.clauses 𝓤 H A mem run) tt (at, tt) tt r)))) (id⊢ 𝓤 _) $
           await ! tt $ pick ! (λ r.
           split ! $ move ! (1 ∷ []) $ use1 W (raw (fact 𝓤 (r ≡ finished at))) (finish-told at r) $ heard !
           (r ≡ finished at) (λ e. split ! $ move ! (1 ∷ []) $ peeks ! E.the-row (Is E.the-row)
           (shows 𝓤 H A E.the-row) r (w ∷ []) (λ is-r.
-          land ! (from ! (stop !)) (init ! 9 refl (EL.lawful E.the-type E′.the-laws 𝓤 H A W tt .typed r _ is-r .0)) $
+          land ! (from ! (stop !)) (init ! 31 refl (EL.lawful E.the-type E′.the-laws 𝓤 H A W tt .typed r _ is-r .0)) $
           -- the rows are in their locals again
-          move ! (6 ∷ []) $ use1 W (some (λ (v : Val). ‵ (fat fullShare (arrayTy u64 size) l₄ 0 v)))
+          move ! (28 ∷ []) $ use1 W (some (λ (v : Val). ‵ (fat fullShare (arrayTy u64 size) l₄ 0 v)))
           (array-in u64 𝓤 H A W (uint-vals w64) (uint-tells w64) f size l₄ (good .1 .0)) $ pick ! (λ v₄.
-          move ! (7 ∷ []) $ use1 W (some (λ (v : Val). ‵ (fat fullShare (arrayTy u64 size) l₅ 0 v)))
+          move ! (29 ∷ []) $ use1 W (some (λ (v : Val). ‵ (fat fullShare (arrayTy u64 size) l₅ 0 v)))
           (array-in u64 𝓤 H A W (uint-vals w64) (uint-tells w64) g size l₅ (good .1 .1 .0)) $ pick ! (λ v₅.
-          move ! (8 ∷ []) $ use1 W (some (λ (v : Val). ‵ (fat fullShare (arrayTy u64 size) l₆ 0 v)))
+          move ! (30 ∷ []) $ use1 W (some (λ (v : Val). ‵ (fat fullShare (arrayTy u64 size) l₆ 0 v)))
           (array-in u64 𝓤 H A W (uint-vals w64) (uint-tells w64) m size l₆ (good .1 .1 .1)) $ pick ! (λ v₆.
-          returns ! (look ! 9 refl) $ forget ! 9 refl $ forget ! 10 refl $ forget ! 11 refl $ forget ! 12 refl $ forget ! 2 refl $ forget ! 1 refl $ forget ! 0 refl $ forget ! 13 refl $ forget ! 16 refl $
-          keep ! (9 ∷ 10 ∷ 11 ∷ 12 ∷ 2 ∷ 1 ∷ 0 ∷ 13 ∷ 14 ∷ 15 ∷ 16 ∷ 17 ∷ 18 ∷ 19 ∷ 20 ∷ 21 ∷ 22 ∷ 23 ∷ 24 ∷ 25 ∷ 26 ∷ 27 ∷ 28 ∷ 29 ∷ 30 ∷ 31 ∷ 32 ∷ 33 ∷ 34 ∷ 35 ∷ 36 ∷ 7 ∷ 8 ∷ 6 ∷ 5 ∷ []) $ by ! (free-all 𝓤 H A W En (Had ts) (Post w)
+          returns ! (look ! 31 refl) $
+          keep ! (31 ∷ 32 ∷ 33 ∷ 34 ∷ 2 ∷ 1 ∷ 0 ∷ 35 ∷ 5 ∷ 6 ∷ 7 ∷ 8 ∷ 9 ∷ 10 ∷ 11 ∷ 12 ∷ 13 ∷ 14 ∷ 15 ∷ 16 ∷ 17 ∷ 18 ∷
+          19 ∷ 20 ∷ 21 ∷ 22 ∷ 23 ∷ 24 ∷ 25 ∷ 26 ∷ 36 ∷ 29 ∷ 30 ∷ 28 ∷ 27 ∷ []) $ by ! (free-all 𝓤 H A W En (has _ ∷ has
+          _ ∷ has _ ∷ has _ ∷ has _ ∷ has _ ∷ has _ ∷ has _ ∷ none ∷ none ∷ has _ ∷ none ∷ none ∷ none ∷ none ∷ none ∷
+          none ∷ none ∷ none ∷ none ∷ none ∷ none ∷ none ∷ none ∷ none ∷ none ∷ none ∷ none ∷ none ∷ none ∷ []) (Had
+          ts) (Post w)
           (exits ts r w (good .0 .0 .same) (owed r e) is-r)))))))))
         where
           owed : (r : Swept) → r ≡ finished at → Owed ts r
@@ -621,25 +717,41 @@ module _ {M : Type 1} (𝓤 : URA M) (H : Heap 𝓤) (A : Atoms 𝓤) (W : Given
         qed W ((‵ (flft κ₀ q₀) ⊛ ‵ (flft κ₁ q₁) ⊛ ‵ ftrue) ∷ ‵
         (owns (ShrSlice (named 0) κ₀ u64 ∷ usize ∷ MutSlice (named 1) κ₁ R ∷ []) a vals)
         ∷ []) ∵ enter ! C Λ code.function (s₀ ∷ vint w64 count ∷ s₁ ∷ []) _ $ allocs-all ! (λ ls. params1 ! $
-        pass1 ! (init ! 1 refl (tt, (tt, (record { fits = room₀ .0 }, tt)))) $ pass1 ! (init ! 2 refl (tt, record { fits = count-fits })) $ pass1 ! (init ! 3 refl (tt, (tt, (record { fits = room₁ .0 }, tt)))) $ pass0 ! $
+        pass1 ! (init ! 1 refl (tt, (tt, (record { fits = room₀ .0 }, tt)))) $ pass1 ! (init ! 2 refl (
+          tt,
+          record {
+            fits = count-fits;
+          },
+        )) $ pass1 ! (init ! 3 refl (tt, (tt, (record { fits = room₁ .0 }, tt)))) $ pass0 ! $
         move ! (31 ∷ []) $ split ! $
         move ! (1 ∷ []) $ split ! $
         move ! (34 ∷ []) $ fsplit ! $
         move ! (1 ∷ []) $ fsplit ! $ drop ! $ fsplit ! $
         -- the rows, each all zero, under a name
-        assigns ! (rep ! size (lit ! tt)) (from ! (stop !)) (init ! 10 refl (repeated-typed u64 0 (vint w64 0) zero-is 𝓤 H A W (uint-lawful 𝓤 H A W w64) size)) $
-        move ! (10 ∷ []) $ use1 W (some (λ (xs : List ℕ). given (xs ≡ replicate size 0) (‵ (Words xs (ls .1 .1 .1 .1 .0)))))
-        (repeated-out u64 0 (vint w64 0) zero-is 𝓤 H A W tt (uint-makes 𝓤 H A W w64) size (ls .1 .1 .1 .1 .0)) $ pick ! (λ f. learn ! (λ f-is.
-        assigns ! (rep ! size (lit ! tt)) (from ! (stop !)) (init ! 11 refl (repeated-typed u64 0 (vint w64 0) zero-is 𝓤 H A W (uint-lawful 𝓤 H A W w64) size)) $
-        move ! (11 ∷ []) $ use1 W (some (λ (xs : List ℕ). given (xs ≡ replicate size 0) (‵ (Words xs (ls .1 .1 .1 .1 .1 .0)))))
-        (repeated-out u64 0 (vint w64 0) zero-is 𝓤 H A W tt (uint-makes 𝓤 H A W w64) size (ls .1 .1 .1 .1 .1 .0)) $ pick ! (λ g. learn ! (λ g-is.
-        assigns ! (rep ! size (lit ! tt)) (from ! (stop !)) (init ! 12 refl (repeated-typed u64 0 (vint w64 0) zero-is 𝓤 H A W (uint-lawful 𝓤 H A W w64) size)) $
-        move ! (12 ∷ []) $ use1 W (some (λ (xs : List ℕ). given (xs ≡ replicate size 0) (‵ (Words xs (ls .1 .1 .1 .1 .1 .1 .0)))))
-        (repeated-out u64 0 (vint w64 0) zero-is 𝓤 H A W tt (uint-makes 𝓤 H A W w64) size (ls .1 .1 .1 .1 .1 .1 .0)) $ pick ! (λ m. learn ! (λ m-is.
+        assigns ! (rep ! size (lit ! tt)) (from ! (stop !)) (init ! 10 refl (repeated-typed u64 0 (vint w64 0) zero-is
+        𝓤 H A W (uint-lawful 𝓤 H A W w64) size)) $
+        move ! (10 ∷ []) $ use1 W (some (λ (xs : List ℕ). given (xs ≡ replicate size 0) (‵ (Words xs (ls .1 .1 .1 .1
+        .0)))))
+        (repeated-out u64 0 (vint w64 0) zero-is 𝓤 H A W tt (uint-makes 𝓤 H A W w64) size (ls .1 .1 .1 .1 .0)) $ pick !
+        (λ f. learn ! (λ f-is.
+        assigns ! (rep ! size (lit ! tt)) (from ! (stop !)) (init ! 11 refl (repeated-typed u64 0 (vint w64 0) zero-is
+        𝓤 H A W (uint-lawful 𝓤 H A W w64) size)) $
+        move ! (11 ∷ []) $ use1 W (some (λ (xs : List ℕ). given (xs ≡ replicate size 0) (‵ (Words xs (ls .1 .1 .1 .1 .1
+        .0)))))
+        (repeated-out u64 0 (vint w64 0) zero-is 𝓤 H A W tt (uint-makes 𝓤 H A W w64) size (ls .1 .1 .1 .1 .1 .0)) $
+        pick ! (λ g. learn ! (λ g-is.
+        assigns ! (rep ! size (lit ! tt)) (from ! (stop !)) (init ! 12 refl (repeated-typed u64 0 (vint w64 0) zero-is
+        𝓤 H A W (uint-lawful 𝓤 H A W w64) size)) $
+        move ! (12 ∷ []) $ use1 W (some (λ (xs : List ℕ). given (xs ≡ replicate size 0) (‵ (Words xs (ls .1 .1 .1 .1 .1
+        .1 .0)))))
+        (repeated-out u64 0 (vint w64 0) zero-is 𝓤 H A W tt (uint-makes 𝓤 H A W w64) size (ls .1 .1 .1 .1 .1 .1 .0)) $
+        pick ! (λ m. learn ! (λ m-is.
         -- `start`, with a copy of what the plan owns
-        move ! (5 ∷ []) $ use1 W (‵ Own₀ ⊛ ‵ Own₀) (shr-slice-copy 𝓤 H A W (named 0) κ₀ u64 .twice x₀ (s₀ ∷ [])) $ split ! $
+        move ! (5 ∷ []) $ use1 W (‵ Own₀ ⊛ ‵ Own₀) (shr-slice-copy 𝓤 H A W (named 0) κ₀ u64 .twice x₀ (s₀ ∷ [])) $
+        split ! $
         move ! (9 ∷ 0 ∷ []) $ use2 W (raw (Start 𝓤 H A mem run .pre to-start)) goes-start $
-        calls-at ! (fmOf 𝓤 H (W .laws) 𝓣) (Start 𝓤 H A mem run) known-start to-start (and-then ! (load ! (from ! (stop !)) (look ! 10 refl)) (and-then ! (load ! (from ! (stop !)) (look ! 11 refl)) (no-more !))) (λ w.
+        calls-at ! (fmOf 𝓤 H (W .laws) 𝓣) (Start 𝓤 H A mem run) known-start to-start (and-then ! (load ! (from ! (stop
+        !)) (look ! 10 refl)) (and-then ! (load ! (from ! (stop !)) (look ! 11 refl)) (no-more !))) (λ w.
         use1 W (later (some (λ (r : Drive). ((‵ (flft κ₀ q₀) ⊛ ‵ ftrue) ⊛ ‵ (D.the-row .own r (w ∷ []))) ⊛ raw
         (ensured 𝓤 H A the-start.ended (the-start.clauses 𝓤 H A mem run) (κ₀, tt) (x₀, (count, tt)) tt r))))
         (id⊢ 𝓤 _) $ await ! tt $ pick ! (λ r.
@@ -647,8 +759,24 @@ module _ {M : Type 1} (𝓤 : URA M) (H : Heap 𝓤) (A : Atoms 𝓤) (W : Given
         (λ e. split ! $ move ! (1 ∷ []) $ peeks ! D.the-row (Is D.the-row) (shows 𝓤 H A D.the-row) r (w ∷ [])
         (λ is-r.
         land ! (from ! (stop !)) (init ! 14 refl (LL.lawful D.the-type D′.the-laws 𝓤 H A W .typed r _ is-r .0)) $
-        rewrite ! 14 (λ (u : Val). ‵ (fat fullShare driveTy (ls .1 .1 .1 .1 .1 .1 .1 .0) 0 u)) (ap only (LL.tells D.the-type D′.the-laws r _ is-r)) refl $ drop ! $ split ! $
-        keep ! (6 ∷ 2 ∷ 0 ∷ 8 ∷ 5 ∷ 4 ∷ 3 ∷ 10 ∷ 11 ∷ 12 ∷ 13 ∷ 14 ∷ 15 ∷ 16 ∷ 17 ∷ 18 ∷ 19 ∷ 20 ∷ 21 ∷ 22 ∷ 23 ∷ 24 ∷ 25 ∷ 26 ∷ 27 ∷ 28 ∷ 29 ∷ 30 ∷ 31 ∷ 32 ∷ 33 ∷ 34 ∷ 35 ∷ 36 ∷ 37 ∷ []) $ by ! (loops (e .1) (ls .0) (ls .1 .0) (ls .1 .1 .0) (ls .1 .1 .1 .0) (ls .1 .1 .1 .1 .0) (ls .1 .1 .1 .1 .1 .0) (ls .1 .1 .1 .1 .1 .1 .0) (ls .1 .1 .1 .1 .1 .1 .1 .0) (ls .1 .1 .1 .1 .1 .1 .1 .1 .0) (ls .1 .1 .1 .1 .1 .1 .1 .1 .1 .0) (ls .1 .1 .1 .1 .1 .1 .1 .1 .1 .1 .0) (ls .1 .1 .1 .1 .1 .1 .1 .1 .1 .1 .1 .0) (ls .1 .1 .1 .1 .1 .1 .1 .1 .1 .1 .1 .1 .0) (ls .1 .1 .1 .1 .1 .1 .1 .1 .1 .1 .1 .1 .1 .0) (ls .1 .1 .1 .1 .1 .1 .1 .1 .1 .1 .1 .1 .1 .1 .0) (ls .1 .1 .1 .1 .1 .1 .1 .1 .1 .1 .1 .1 .1 .1 .1 .0) (ls .1 .1 .1 .1 .1 .1 .1 .1 .1 .1 .1 .1 .1 .1 .1 .1 .0) (ls .1 .1 .1 .1 .1 .1 .1 .1 .1 .1 .1 .1 .1 .1 .1 .1 .1 .0) (ls .1 .1 .1 .1 .1 .1 .1 .1 .1 .1 .1 .1 .1 .1 .1 .1 .1 .1 .0) (ls .1 .1 .1 .1 .1 .1 .1 .1 .1 .1 .1 .1 .1 .1 .1 .1 .1 .1 .1 .0) (ls .1 .1 .1 .1 .1 .1 .1 .1 .1 .1 .1 .1 .1 .1 .1 .1 .1 .1 .1 .1 .0) (ls .1 .1 .1 .1 .1 .1 .1 .1 .1 .1 .1 .1 .1 .1 .1 .1 .1 .1 .1 .1 .1 .0) (ls .1 .1 .1 .1 .1 .1 .1 .1 .1 .1 .1 .1 .1 .1 .1 .1 .1 .1 .1 .1 .1 .1 .0) (ls .1 .1 .1 .1 .1 .1 .1 .1 .1 .1 .1 .1 .1 .1 .1 .1 .1 .1 .1 .1 .1 .1 .1 .0) (ls .1 .1 .1 .1 .1 .1 .1 .1 .1 .1 .1 .1 .1 .1 .1 .1 .1 .1 .1 .1 .1 .1 .1 .1 .0) (ls .1 .1 .1 .1 .1 .1 .1 .1 .1 .1 .1 .1 .1 .1 .1 .1 .1 .1 .1 .1 .1 .1 .1 .1 .1 .0) (ls .1 .1 .1 .1 .1 .1 .1 .1 .1 .1 .1 .1 .1 .1 .1 .1 .1 .1 .1 .1 .1 .1 .1 .1 .1 .1 .0) (ls .1 .1 .1 .1 .1 .1 .1 .1 .1 .1 .1 .1 .1 .1 .1 .1 .1 .1 .1 .1 .1 .1 .1 .1 .1 .1 .1 .0) (ls .1 .1 .1 .1 .1 .1 .1 .1 .1 .1 .1 .1 .1 .1 .1 .1 .1 .1 .1 .1 .1 .1 .1 .1 .1 .1 .1 .1 .0) (ls .1 .1 .1 .1 .1 .1 .1 .1 .1 .1 .1 .1 .1 .1 .1 .1 .1 .1 .1 .1 .1 .1 .1 .1 .1 .1 .1 .1 .1 .0) (r, (lent, (f, (g, m)))) (
+        rewrite ! 14 (λ (u : Val). ‵ (fat fullShare driveTy (ls .1 .1 .1 .1 .1 .1 .1 .0) 0 u)) (ap only (LL.tells
+        D.the-type D′.the-laws r _ is-r)) refl $ drop ! $ split ! $
+        keep ! (15 ∷ 16 ∷ 17 ∷ 18 ∷ 19 ∷ 20 ∷ 21 ∷ 22 ∷ 23 ∷ 24 ∷ 25 ∷ 26 ∷ 27 ∷ 28 ∷ 29 ∷ 30 ∷ 31 ∷ 32 ∷ 33 ∷ 34 ∷ 35
+        ∷ 36 ∷ 6 ∷ 2 ∷ 0 ∷ 8 ∷ 5 ∷ 4 ∷ 3 ∷ 10 ∷ 11 ∷ 12 ∷ 13 ∷ 14 ∷ 37 ∷ []) $ by ! (loops (e .1) (ls .0) (ls .1 .0)
+        (ls .1 .1 .0) (ls .1 .1 .1 .0) (ls .1 .1 .1 .1 .0) (ls .1 .1 .1 .1 .1 .0) (ls .1 .1 .1 .1 .1 .1 .0) (ls .1 .1
+        .1 .1 .1 .1 .1 .0) (ls .1 .1 .1 .1 .1 .1 .1 .1 .0) (ls .1 .1 .1 .1 .1 .1 .1 .1 .1 .0) (ls .1 .1 .1 .1 .1 .1 .1
+        .1 .1 .1 .0) (ls .1 .1 .1 .1 .1 .1 .1 .1 .1 .1 .1 .0) (ls .1 .1 .1 .1 .1 .1 .1 .1 .1 .1 .1 .1 .0) (ls .1 .1 .1
+        .1 .1 .1 .1 .1 .1 .1 .1 .1 .1 .0) (ls .1 .1 .1 .1 .1 .1 .1 .1 .1 .1 .1 .1 .1 .1 .0) (ls .1 .1 .1 .1 .1 .1 .1 .1
+        .1 .1 .1 .1 .1 .1 .1 .0) (ls .1 .1 .1 .1 .1 .1 .1 .1 .1 .1 .1 .1 .1 .1 .1 .1 .0) (ls .1 .1 .1 .1 .1 .1 .1 .1 .1
+        .1 .1 .1 .1 .1 .1 .1 .1 .0) (ls .1 .1 .1 .1 .1 .1 .1 .1 .1 .1 .1 .1 .1 .1 .1 .1 .1 .1 .0) (ls .1 .1 .1 .1 .1 .1
+        .1 .1 .1 .1 .1 .1 .1 .1 .1 .1 .1 .1 .1 .0) (ls .1 .1 .1 .1 .1 .1 .1 .1 .1 .1 .1 .1 .1 .1 .1 .1 .1 .1 .1 .1 .0)
+        (ls .1 .1 .1 .1 .1 .1 .1 .1 .1 .1 .1 .1 .1 .1 .1 .1 .1 .1 .1 .1 .1 .0) (ls .1 .1 .1 .1 .1 .1 .1 .1 .1 .1 .1 .1
+        .1 .1 .1 .1 .1 .1 .1 .1 .1 .1 .0) (ls .1 .1 .1 .1 .1 .1 .1 .1 .1 .1 .1 .1 .1 .1 .1 .1 .1 .1 .1 .1 .1 .1 .1 .0)
+        (ls .1 .1 .1 .1 .1 .1 .1 .1 .1 .1 .1 .1 .1 .1 .1 .1 .1 .1 .1 .1 .1 .1 .1 .1 .0) (ls .1 .1 .1 .1 .1 .1 .1 .1 .1
+        .1 .1 .1 .1 .1 .1 .1 .1 .1 .1 .1 .1 .1 .1 .1 .1 .0) (ls .1 .1 .1 .1 .1 .1 .1 .1 .1 .1 .1 .1 .1 .1 .1 .1 .1 .1
+        .1 .1 .1 .1 .1 .1 .1 .1 .0) (ls .1 .1 .1 .1 .1 .1 .1 .1 .1 .1 .1 .1 .1 .1 .1 .1 .1 .1 .1 .1 .1 .1 .1 .1 .1 .1
+        .1 .0) (ls .1 .1 .1 .1 .1 .1 .1 .1 .1 .1 .1 .1 .1 .1 .1 .1 .1 .1 .1 .1 .1 .1 .1 .1 .1 .1 .1 .1 .0) (ls .1 .1 .1
+        .1 .1 .1 .1 .1 .1 .1 .1 .1 .1 .1 .1 .1 .1 .1 .1 .1 .1 .1 .1 .1 .1 .1 .1 .1 .1 .0) (r, (lent, (f, (g, m)))) (
           (
             subst (λ (y : Drive). Driven plan count lent y lent) (sym (e .0))
                 (driven-start plan count lent (e .1) of enough),
@@ -701,13 +829,16 @@ sweep-rows-spec 𝓤 H 𝓜 𝓖 𝓡 =
     entered 𝓤 H (tripleOf 𝓤 H (𝓖 .A) the-rows.signature (the-rows.spec 𝓤 H (𝓖 .A) (𝓜 .mem) (𝓡 .run)))
     (tables 𝓤 H 𝓜 𝓡 code.env .C) (tables 𝓤 H 𝓜 𝓡 code.env .Λ) #sweep·sweep-rows code.function (code.unfolded 𝓤 H 𝓜 𝓡)
     (rows-meets 𝓤 H (𝓖 .A) (givenOf 𝓤 H 𝓜 𝓖) (𝓜 .mem) (𝓡 .run) (tablesOf 𝓤 H 𝓜 (tables 𝓤 H 𝓜 𝓡 code.env))
-    (cited 𝓤 H (Start 𝓤 H (𝓖 .A) (𝓜 .mem) (𝓡 .run)) 𝓜 𝓡 code.env #sweep-steps·start start-def.routine code.calls-sweep-steps·start
+    (cited 𝓤 H (Start 𝓤 H (𝓖 .A) (𝓜 .mem) (𝓡 .run)) 𝓜 𝓡 code.env #sweep-steps·start
+    start-def.routine code.calls-sweep-steps·start
     (start-thm.met 𝓤 H 𝓜 𝓖 𝓡))
-    (cited 𝓤 H (SourcesOf 𝓤 H (𝓖 .A) (𝓜 .mem) (𝓡 .run)) 𝓜 𝓡 code.env #sweep-steps·sources-of sources-def.routine code.calls-sweep-steps·sources-of
+    (cited 𝓤 H (SourcesOf 𝓤 H (𝓖 .A) (𝓜 .mem) (𝓡 .run)) 𝓜 𝓡 code.env #sweep-steps·sources-of sources-def.routine
+    code.calls-sweep-steps·sources-of
     (sources-thm.met 𝓤 H 𝓜 𝓖 𝓡))
     (cited 𝓤 H (Fetch 𝓤 H (𝓖 .A) (𝓜 .mem) (𝓡 .run)) 𝓜 𝓡 code.env #sweep·fetch fetch-def.routine code.calls-sweep·fetch
     (fetch-thm.met 𝓤 H 𝓜 𝓖 𝓡))
-    (cited 𝓤 H (Make 𝓤 H (𝓖 .A) (𝓜 .mem) (𝓡 .run)) 𝓜 𝓡 code.env #sweep-steps·make make-def.routine code.calls-sweep-steps·make
+    (cited 𝓤 H (Make 𝓤 H (𝓖 .A) (𝓜 .mem) (𝓡 .run)) 𝓜 𝓡 code.env #sweep-steps·make
+    make-def.routine code.calls-sweep-steps·make
     (make-thm.met 𝓤 H 𝓜 𝓖 𝓡))
     (cited 𝓤 H (Store 𝓤 H (𝓖 .A) (𝓜 .mem) (𝓡 .run)) 𝓜 𝓡 code.env #sweep·store store-def.routine code.calls-sweep·store
     (store-thm.met 𝓤 H 𝓜 𝓖 𝓡))
@@ -715,4 +846,5 @@ sweep-rows-spec 𝓤 H 𝓜 𝓖 𝓡 =
     (𝓡 .run)) 𝓜 𝓡 code.env #sweep-steps·following-of following-def.routine code.calls-sweep-steps·following-of
     (following-thm.met 𝓤 H 𝓜 𝓖 𝓡))
     (cited 𝓤 H (Finish 𝓤 H (𝓖 .A) (𝓜 .mem)
-    (𝓡 .run)) 𝓜 𝓡 code.env #sweep-steps·finish finish-def.routine code.calls-sweep-steps·finish (finish-thm.met 𝓤 H 𝓜 𝓖 𝓡)))
+    (𝓡 .run)) 𝓜 𝓡 code.env #sweep-steps·finish finish-def.routine code.calls-sweep-steps·finish
+    (finish-thm.met 𝓤 H 𝓜 𝓖 𝓡)))

@@ -1,4 +1,5 @@
--- `sweep_steps::clear` meets its contract. The loop's invariant: the words before k are zero. The measure is what is left.
+-- `sweep_steps::clear` meets its contract. The loop's invariant: the words before k are zero. The measure is what is
+-- left.
 use mathlib.Core.Path.{_≡_, _∙_}
 use Prim.Native.Nat.{ℕ, _-_, _<_, _≤_}
 use native.Mathlib.Omega.{arith}

@@ -14,4 +14,5 @@ returns-2 c =
 
 pub following-of-spec : {M : Type 1} → statement M
 following-of-spec =
-    tie.close (tie.spec returns (λ c. search needs) (λ c. search needs) (λ c. search needs) (λ c κs. search needs) returns-2)
+    tie.close (tie.spec returns (λ c. search needs) (λ c. search needs) (λ c. search needs) (λ c κs. search needs)
+    returns-2)

@@ -1,5 +1,5 @@
--- `verdict::judge` meets its contract. The loop's invariant: what is left to judge says what the whole does, and no more
--- blocks and effects are passed than bytes. The measure is what is left of the bytes.
+-- `verdict::judge` meets its contract. The loop's invariant: what is left to judge says what the whole does, and no
+-- more blocks and effects are passed than bytes. The measure is what is left of the bytes.
 use mathlib.Core.Path.{_≡_, refl, ap, sym, _∙_}
 use Prim.Native.Nat.{ℕ, _+_, _≤_, _-_}
 use native.Mathlib.Omega.{arith}

@@ -1,5 +1,5 @@
--- `verdict::judge_ends` meets its contract. The loop's invariant: what is left to judge says what the whole does, and no
--- more blocks are passed than bytes. The measure is what is left of the bytes.
+-- `verdict::judge_ends` meets its contract. The loop's invariant: what is left to judge says what the whole does, and
+-- no more blocks are passed than bytes. The measure is what is left of the bytes.
 use mathlib.Core.Path.{_≡_, refl, sym, _∙_}
 use Prim.Native.Nat.{_≤_, _-_}
 use native.Mathlib.Omega.{arith}
