@@ -1,8 +1,7 @@
 -- A call of `sweep::make` by whoever has the plan as a `&κ [u64]` and the three rows in locals of its own: those that
--- are
--- read are lent to be read, the one that is made is lent, each for a lifetime of the call, and all come back.
+-- are read are lent to be read, the one that is made is lent, each for a lifetime of the call, and all come back.
 -- goes     [κ's token; the plan; the words f and g that are read; the words m]  become  [what `make` asks; what comes
--- back]
+-- back after it]
 -- comes    what `make` leaves, and what comes back after it, become [κ's token; the plan; f; g; the row that is made]
 -- makes    both, as one step of a walk: the call, in any context
 -- Rests on `make`'s contract, specs/Turn and Lent; assumes `Given`.
