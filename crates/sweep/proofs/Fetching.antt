@@ -1,12 +1,11 @@
 -- A call of `sweep::fetch` by whoever has the table as a `&κ mut [Entry]` and the row in a local of its own: the table
--- is
--- lent again and the row is lent, each for a lifetime of the call, and both come back.
+-- is lent again and the row is lent, each for a lifetime of the call, and both come back.
 -- goes       [the row's words xs; the table ts; κ's token]  become  [what `fetch` asks; what comes back after it]
 -- comes      what `fetch` leaves, and what comes back after it, become [the table; κ's token; the row's words with the
 -- entries fetched], and its result is a number
 -- fetches    both, as one step of a walk: the call, in any context
 -- Rests on `fetch`'s contract, Lent and Again; assumes `Given`.
-use mathlib.Core.Path.{_≡_, refl, sym, subst}
+use mathlib.Core.Path.{_≡_, refl, sym}
 use Prim.Native.Nat.{ℕ, _+_, _<_, _≤_, _^_}
 use native.Mathlib.Omega.{arith}
 use mathlib.Core.List.{List, [], _∷_}

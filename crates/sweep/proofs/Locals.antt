@@ -1,6 +1,5 @@
 -- A function's locals, all at once: they are allocated in one step and freed in one step, and what lets them end is
--- one
--- entry of the context, so that a walk handles one entry a local and not two. It says nothing of the crate.
+-- one entry of the context, so that a walk handles one entry a local and not two. It says nothing of the crate.
 -- rooms E, ends E    the room of each local of the environment E, in their order; what lets each of them end
 -- Places ls, envOf   where the locals ls are put, and the environment that they then are
 -- allocs-all         the locals are allocated: their rooms, in their order, and `ends`

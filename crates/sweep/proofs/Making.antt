@@ -1,11 +1,9 @@
--- A call of `sweep::make` by whoever has the plan as a `&κ [u64]` and the three rows in locals of its own: those that
--- are
--- read are lent to be read, the one that is made is lent, each for a lifetime of the call, and all come back.
+-- A call of `sweep_steps::make` by whoever has the plan as a `&κ [u64]` and the three rows in locals of its own: those
+-- that are read are lent to be read, the one that is made is lent, each for a lifetime of the call, and all come back.
 -- goes     [κ's token; the plan; the words f and g that are read; the words m]  become  [what `make` asks; what comes
--- back]
--- comes    what `make` leaves, and what comes back after it, become [κ's token; the plan; f; g; the row that is made]
--- makes    both, as one step of a walk: the call, in any context
--- Rests on `make`'s contract, sweep_steps' Turn and Lent; assumes `Given`.
+-- back after it] comes    what `make` leaves, and what comes back after it, become [κ's token; the plan; f; g; the row
+-- that is made] makes    both, as one step of a walk: the call, in any context Rests on `make`'s contract, sweep_steps'
+-- Turn and Lent; assumes `Given`.
 use mathlib.Core.Path.{_≡_, refl, _∙_}
 use Prim.Native.Nat.{ℕ, _<_, _^_}
 use native.Mathlib.Omega.{arith}

@@ -1,13 +1,11 @@
 -- A call of `sweep::store` by whoever has the table as a `&κ mut [Entry]` and the row's words in a local of its own:
--- the
--- table is lent again and the words are lent to be read, each for a lifetime of the call, and both come back.
+-- the table is lent again and the words are lent to be read, each for a lifetime of the call, and both come back.
 -- goes      [the words ws; the table ts; κ's token]  become  [what `store` asks; what comes back after it]
 -- comes     what `store` leaves, and what comes back after it, become [the table with the entries stored; κ's token;
--- the
--- words], and its result is a number
+-- the words], and its result is a number
 -- stores    both, as one step of a walk: the call, in any context
 -- Rests on `store`'s contract, Lent and Again; assumes `Given`.
-use mathlib.Core.Path.{_≡_, refl, sym, subst}
+use mathlib.Core.Path.{_≡_, refl, sym}
 use Prim.Native.Nat.{ℕ, _+_, _<_, _≤_, _^_}
 use native.Mathlib.Omega.{arith}
 use mathlib.Core.List.{List, [], _∷_}
@@ -34,7 +32,7 @@ use denote.Plain.{uint-makes}
 use denote.Builtin.{u64, usize}
 use denote.Memory.{mem as mem-of}
 use denote.Ref.{RefT}
-use denote.Slice.{sliceVal, MutSlice, ShrSlice, Room, finally}
+use denote.Slice.{sliceVal, MutSlice, ShrSlice, Room}
 use denote.Steps.{owned, peeks, heard, nothing}
 use denote.Triple.Spec.{tripleOf}
 use denote.Triple.Statement.{Contract, Triple}

@@ -6,15 +6,18 @@ use Rattle.cases.proofs.trainers_cases.Tie as tie
 
 slice-aggregate-list-2 : tie.Need-slice-aggregate-list-2
 slice-aggregate-list-2 c = kept _ _ _ _
-    (c .before .before .before .before .before .before .before .before .before .before .before .form2 .ensures)
+    (c .before .before .before .before .before .before .before .before
+    .before .before .before .form2 .ensures)
 
 slice-aggregate-sweep-2 : tie.Need-slice-aggregate-sweep-2
 slice-aggregate-sweep-2 c = kept _ _ _ _
-    (c .before .before .before .before .before .before .before .before .before .before .before .before .before .form2 .ensures)
+    (c .before .before .before .before .before .before .before .before
+    .before .before .before .before .before .form2 .ensures)
 
 slice-aggregate-walk-3 : tie.Need-slice-aggregate-walk-3
 slice-aggregate-walk-3 c = kept _ _ _ _
-    (c .before .before .before .before .before .before .before .before .before .before .before .before .before .before .before .form2 .ensures)
+    (c .before .before .before .before .before .before .before .before
+    .before .before .before .before .before .before .before .form2 .ensures)
 
 pub trainers-cases-spec : {M : Type 1} → statement M
 trainers-cases-spec =

@@ -237,43 +237,43 @@ module _ {M : Type 1} (𝓤 : URA M) (H : Heap 𝓤) (A : Atoms 𝓤) (W : Given
     unfolding afterTurn
     more k X small then =
         qed W (At k) ∵ exec ! C Λ En body.turn-1 (anyQ (afterTurn 𝓤 H X Left)) $
-        assigns ! (bin ! (load ! (from ! (stop !)) (look ! 6 refl)) (load ! (from ! (stop !)) (look ! 5 refl)) tt)
-        (from ! (stop !)) (init ! 8 refl (tt, tt)) $
+        assigns ! (bin ! (load ! (from ! (stop !)) (look ! 6 refl)) (load ! (from ! (stop !))
+        (look ! 5 refl)) tt) (from ! (stop !)) (init ! 8 refl (tt, tt)) $
         rewrite ! 8 (λ (t : Bool). ‵ (fat fullShare tyBool l₇ 0 (vbool t))) (lt-ltb k n small) refl $
         stays ! (load ! (from ! (stop !)) (look ! 8 refl)) $
-        assigns ! (bin ! (load ! (from ! (stop !)) (look ! 3 refl)) (load ! (from ! (stop !)) (look ! 6 refl)) (record
-        { fits = at-fits })) (from ! (stop !)) (init ! 7 refl (tt, record { fits = at-fits })) $
+        assigns ! (bin ! (load ! (from ! (stop !)) (look ! 3 refl)) (load ! (from ! (stop !)) (look ! 6 refl))
+        (record { fits = at-fits })) (from ! (stop !)) (init ! 7 refl (tt, record { fits = at-fits })) $
         -- `entry_at`, with a copy of what the words own
-        move ! (16 ∷ []) $ use1 W (‵ Own ⊛ ‵ Own) (shr-slice-copy 𝓤 H A W (named 1) κ₁ u64 .twice x₁ (s₁ ∷ [])) $ split
-        ! $
-        move ! (17 ∷ 0 ∷ []) $ use2 W (raw (EntryAt 𝓤 H A mem run .pre (to k))) (goes k small) $
-        calls-at ! (fmOf 𝓤 H (W .laws) 𝓣) (EntryAt 𝓤 H A mem run) known (to k) (and-then ! (load ! (from ! (stop !))
-        (look ! 6 refl)) (and-then ! (load ! (from ! (stop !)) (look ! 8 refl)) (no-more !))) (λ w.
-        use1 W (later (some (λ (r : Entry). ((‵ (flft κ₁ q₁) ⊛ ‵ ftrue) ⊛ ‵ (R .own r (w ∷ []))) ⊛ raw
+        move ! (16 ∷ []) $ use1 W (‵ Own ⊛ ‵ Own) (shr-slice-copy 𝓤 H A W (named 1) κ₁ u64 .twice x₁ (s₁ ∷ [])) $
+        split ! $ move ! (17 ∷ 0 ∷ []) $ use2 W (raw (EntryAt 𝓤 H A mem run .pre (to k))) (goes k small) $
+        calls-at ! (fmOf 𝓤 H (W .laws) 𝓣) (EntryAt 𝓤 H A mem run) known (to k) (and-then ! (load ! (from !
+        (stop !)) (look ! 6 refl)) (and-then ! (load ! (from ! (stop !)) (look ! 8 refl)) (no-more !)))
+        (λ w. use1 W (later (some (λ (r : Entry). ((‵ (flft κ₁ q₁) ⊛ ‵ ftrue) ⊛ ‵ (R .own r (w ∷ []))) ⊛ raw
         (ensured 𝓤 H A entry-at.ended (entry-at.clauses 𝓤 H A mem run) (κ₁, tt) (x₁, (k, tt)) tt r)))) (id⊢ 𝓤 _) $
-        await ! tt $ pick ! (λ r. split ! $ move ! (1 ∷ []) $ use1 W (raw (fact 𝓤 (r ≡ structAt ws k)))
-        (made-of 𝓤 H A mem run κ₁ x₁ k r) $ heard ! (r ≡ structAt ws k)
-        (λ e. split ! $ move ! (1 ∷ []) $ peeks ! R (Is R) (shows 𝓤 H A R) r (w ∷ []) (λ is.
-        land ! (from ! (stop !)) (init ! 12 refl (LL.lawful T.the-type T′.the-laws 𝓤 H A W .typed r _ is .0)) $
+        await ! tt $ pick ! (λ r. split ! $ move ! (1 ∷ []) $
+        use1 W (raw (fact 𝓤 (r ≡ structAt ws k))) (made-of 𝓤 H A mem run κ₁ x₁ k r) $
+        heard ! (r ≡ structAt ws k) (λ e. split ! $ move ! (1 ∷ []) $
+        peeks ! R (Is R) (shows 𝓤 H A R) r (w ∷ []) (λ is. land ! (from ! (stop !)) (init ! 12 refl
+        (LL.lawful T.the-type T′.the-laws 𝓤 H A W .typed r _ is .0)) $
         -- the place of the entry, which is taken out of the row, stored to and put back
-        assigns ! (bin ! (load ! (from ! (stop !)) (look ! 10 refl)) (lit ! tt) (record { fits = off })) (from ! (stop
-        !)) (init ! 13 refl (tt, record { fits = off })) $
-        assigns ! (bin ! (load ! (from ! (fld ! refl (stop !))) (look-in ! 5 (sub ! 0 refl (whole !)))) (load ! (from !
-        (stop !)) (look ! 13 refl)) tt) (from ! (stop !)) (init ! 14 refl (tt, tt)) $
-        rewrite ! 14 (λ (p : ℕ). ‵ (fat fullShare tyPtr l₁₀ 0 (vptr b p))) (sym (place-is stride o (start + k))) refl $
-        move ! (3 ∷ []) $ elem-out ! R (Is R) (shows 𝓤 H A R) (LL.vals T.the-type T′.the-laws)
-        (LL.tells T.the-type T′.the-laws) fullShare (after k) (start + k) r b o within (λ _.
-        use1 W (‵ (fat fullShare T′.mir b (place stride o (start + k)) _))
-        (W .laws .raw-at fullShare T′.mir b (place stride o (start + k)) _) $
-        assigns ! (of-opd ! (load ! (from ! (stop !)) (look ! 14 refl))) (from ! (hop ! (look ! 16 refl) (stop !)))
-        (store ! 0 refl (LL.lawful T.the-type T′.the-laws 𝓤 H A W .typed r _ is .0)) $
+        assigns ! (bin ! (load ! (from ! (stop !)) (look ! 10 refl)) (lit ! tt) (record { fits = off })) (from !
+        (stop !)) (init ! 13 refl (tt, record { fits = off })) $
+        assigns ! (bin ! (load ! (from ! (fld ! refl (stop !))) (look-in ! 5 (sub ! 0 refl (whole !)))) (load !
+        (from ! (stop !)) (look ! 13 refl)) tt) (from ! (stop !)) (init ! 14 refl (tt, tt)) $
+        rewrite ! 14 (λ (p : ℕ). ‵ (fat fullShare tyPtr l₁₀ 0 (vptr b p))) (sym (place-is stride o
+        (start + k))) refl $ move ! (3 ∷ []) $
+        elem-out ! R (Is R) (shows 𝓤 H A R) (LL.vals T.the-type T′.the-laws)
+        (LL.tells T.the-type T′.the-laws) fullShare (after k) (start + k) r b o within (λ _. use1 W (‵
+        (fat fullShare T′.mir b (place stride o (start + k)) _)) (W .laws .raw-at fullShare T′.mir b
+        (place stride o (start + k)) _) $
+        assigns ! (of-opd ! (load ! (from ! (stop !)) (look ! 14 refl))) (from ! (hop ! (look ! 16 refl)
+        (stop !))) (store ! 0 refl (LL.lawful T.the-type T′.the-laws 𝓤 H A W .typed r _ is .0)) $
         use1 W (‵ (cellAt fullShare (R .mir) (w ∷ []) b (place stride o (start + k))))
-        (W .laws .at-raw fullShare T′.mir b (place stride o (start + k)) w) $
-        move ! (0 ∷ 3 ∷ 2 ∷ []) $ elem-put ! R fullShare (after k) (start + k) r (w ∷ []) b o within $
-        move ! (2 ∷ []) $ split ! $
-        assigns-last ! (bin ! (load ! (from ! (stop !)) (look ! 10 refl)) (lit ! tt) (record { fits = next })) (from !
-        (stop !)) (store ! 10 refl (tt, record { fits = next })) $
-        forget ! 11 refl $ forget ! 12 refl $ forget ! 13 refl $ forget ! 14 refl $ forget ! 15 refl $
+        (W .laws .at-raw fullShare T′.mir b (place stride o (start + k)) w) $ move ! (0 ∷ 3 ∷ 2 ∷ []) $
+        elem-put ! R fullShare (after k) (start + k) r (w ∷ []) b o within $ move ! (2 ∷ []) $ split ! $
+        assigns-last ! (bin ! (load ! (from ! (stop !)) (look ! 10 refl)) (lit ! tt) (record { fits = next }))
+        (from ! (stop !)) (store ! 10 refl (tt, record { fits = next })) $ forget ! 11 refl $ forget ! 12 refl $
+        forget ! 13 refl $ forget ! 14 refl $ forget ! 15 refl $
         rewrite ! 10 (λ (j : ℕ). ‵ (fat fullShare word l₅ 0 (vint w64 j))) (add-one k) refl $
         rewrite ! 2 (λ (z : Entry). ‵ (row R fullShare (set (after k) (start + k) z) b o)) e refl $
         rewrite ! 2 (λ (l : List Entry). ‵ (row R fullShare l b o)) (stored-more ys start ws k) refl $
@@ -299,21 +299,16 @@ module _ {M : Type 1} (𝓤 : URA M) (H : Heap 𝓤) (A : Atoms 𝓤) (W : Given
     unfolding afterTurn
     leaves X =
         qed W (At n) ∵ exec ! C Λ En body.turn-1 (anyQ (afterTurn 𝓤 H X Left)) $
-        assigns ! (bin ! (load ! (from ! (stop !)) (look ! 6 refl)) (load ! (from ! (stop !)) (look ! 5 refl)) tt)
-        (from ! (stop !)) (init ! 8 refl (tt, tt)) $
+        assigns ! (bin ! (load ! (from ! (stop !)) (look ! 6 refl)) (load ! (from ! (stop !))
+        (look ! 5 refl)) tt) (from ! (stop !)) (init ! 8 refl (tt, tt)) $
         rewrite ! 8 (λ (t : Bool). ‵ (fat fullShare tyBool l₇ 0 (vbool t))) (le-ltb n n (omega arith)) refl $
         leaves-loop ! (load ! (from ! (stop !)) (look ! 8 refl)) $ exec ! C Λ En body.t-3 (atRet En Post) $
-        assigns ! (of-opd ! (load ! (from ! (stop !)) (look ! 6 refl))) (from ! (stop !)) (init ! 1 refl (
-          tt,
-          record {
-            fits = n-fits;
-          },
-        )) $
-        move ! (0 ∷ 12 ∷ 13 ∷ 14 ∷ []) $ closes-slice ! tt R ys zs (stored-length ys start ws n) b o $
-        returns ! (look ! 3 refl) $
-        keep ! (3 ∷ 4 ∷ 5 ∷ 6 ∷ 7 ∷ 8 ∷ 9 ∷ 10 ∷ 11 ∷ 12 ∷ 13 ∷ 16 ∷ 0 ∷ 1 ∷ 2 ∷ 14 ∷ 15 ∷ []) $ by ! (free-all 𝓤 H A W
-        En (has _ ∷ has _ ∷ has _ ∷ has _ ∷ has _ ∷ has _ ∷ none ∷ has _ ∷ none ∷ none ∷ none ∷ []) Had
-        (Post (vint w64 n)) exits)
+        assigns ! (of-opd ! (load ! (from ! (stop !)) (look ! 6 refl))) (from ! (stop !)) (init ! 1 refl
+        (tt, record { fits = n-fits })) $ move ! (0 ∷ 12 ∷ 13 ∷ 14 ∷ []) $
+        closes-slice ! tt R ys zs (stored-length ys start ws n) b o $ returns ! (look ! 3 refl) $
+        keep ! (3 ∷ 4 ∷ 5 ∷ 6 ∷ 7 ∷ 8 ∷ 9 ∷ 10 ∷ 11 ∷ 12 ∷ 13 ∷ 16 ∷ 0 ∷ 1 ∷ 2 ∷ 14 ∷ 15 ∷ []) $
+        by ! (free-all 𝓤 H A W En (has _ ∷ has _ ∷ has _ ∷ has _ ∷ has _ ∷ has _ ∷ none ∷ has _ ∷ none ∷ none ∷ none ∷
+        []) Had (Post (vint w64 n)) exits)
 
     below : (t k : ℕ) → suc k + t ≡ n → ent 𝓤 (⋆ 𝓤 H A (At (suc k))) (Below (suc t))
     below t k e =
@@ -342,36 +337,22 @@ module _ {M : Type 1} (𝓤 : URA M) (H : Heap 𝓤) (A : Atoms 𝓤) (W : Given
       → ent 𝓤 (onEntry 𝓤 H A the-store.signature (κ, (κ₁, tt)) (q, (q₁, tt)) a vals)
       (WpFn 𝓤 H (𝓣 .C) (𝓣 .Λ) code.function (s ∷ vint w64 start ∷ s₁ ∷ vint w64 n ∷ []) Post)
   walk 𝓣 known =
-      qed W ((‵ (flft κ q) ⊛ ‵ (flft κ₁ q₁) ⊛ ‵ ftrue) ∷ ‵
-      (owns (MutSlice (named 0) κ R ∷ usize ∷ ShrSlice (named 1) κ₁ u64 ∷ usize ∷ []) a vals) ∷ []) ∵
-      enter ! (𝓣 .C) (𝓣 .Λ) code.function (s ∷ vint w64 start ∷ s₁ ∷ vint w64 n ∷ []) _ $ allocs-all ! (λ ls. params1 !
-      $
-      pass1 ! (init ! 1 refl (tt, (tt, (record { fits = room .0 }, tt)))) $ pass1 ! (init ! 2 refl (
-        tt,
-        record {
-          fits =
-              start-fits;
-        },
-      )) $
-      pass1 ! (init ! 3 refl (tt, (tt, (record { fits = room₁ .0 }, tt)))) $ pass1 ! (init ! 4 refl (
-        tt,
-        record {
-          fits
-              = n-fits;
-        },
-      )) $ pass0 ! $
+      qed W ((‵ (flft κ q) ⊛ ‵ (flft κ₁ q₁) ⊛ ‵ ftrue) ∷ ‵ (owns (MutSlice (named 0) κ R ∷ usize ∷ ShrSlice
+      (named 1) κ₁ u64 ∷ usize ∷ []) a vals) ∷ []) ∵ enter ! (𝓣 .C) (𝓣 .Λ) code.function
+      (s ∷ vint w64 start ∷ s₁ ∷ vint w64 n ∷ []) _ $ allocs-all ! (λ ls. params1 ! $
+      pass1 ! (init ! 1 refl (tt, (tt, (record { fits = room .0 }, tt)))) $
+      pass1 ! (init ! 2 refl (tt, record { fits = start-fits })) $
+      pass1 ! (init ! 3 refl (tt, (tt, (record { fits = room₁ .0 }, tt)))) $
+      pass1 ! (init ! 4 refl (tt, record { fits = n-fits })) $ pass0 ! $
       assigns ! (of-opd ! (lit ! tt)) (from ! (stop !)) (init ! 5 refl (tt, record { fits = lit< tt })) $
-      move ! (13 ∷ []) $ fsplit ! $
-      move ! (1 ∷ []) $ fsplit ! $ drop ! $ fsplit ! $
-      move ! (2 ∷ []) $ fsplit ! $ drop ! $ fsplit ! $
-      move ! (16 ∷ []) $ split ! $
-      move ! (1 ∷ []) $ split ! $
-      move ! (3 ∷ 4 ∷ 2 ∷ []) $ opens-slice ! tt R ys b o $
+      move ! (13 ∷ []) $ fsplit ! $ move ! (1 ∷ []) $ fsplit ! $ drop ! $ fsplit ! $ move ! (2 ∷ []) $ fsplit ! $
+      drop ! $ fsplit ! $ move ! (16 ∷ []) $ split ! $ move ! (1 ∷ []) $ split ! $ move ! (3 ∷ 4 ∷ 2 ∷ []) $
+      opens-slice ! tt R ys b o $
       rewrite ! 0 (λ (l : List Entry). ‵ (row R fullShare l b o)) (stored-none ys start ws) refl $
-      keep ! (0 ∷ 8 ∷ 9 ∷ 10 ∷ 11 ∷ 12 ∷ 13 ∷ 14 ∷ 15 ∷ 16 ∷ 17 ∷ 18 ∷ 1 ∷ 2 ∷ 3 ∷ 4 ∷ 6 ∷ 19 ∷ []) $ by ! (loops 𝓣
-      known (ls .0) (ls .1 .0) (ls .1 .1 .0) (ls .1 .1 .1 .0) (ls .1 .1 .1 .1 .0) (ls .1 .1 .1 .1 .1 .0) (ls .1 .1 .1
-      .1 .1 .1 .0) (ls .1 .1 .1 .1 .1 .1 .1 .0) (ls .1 .1 .1 .1 .1 .1 .1 .1 .0) (ls .1 .1 .1 .1 .1 .1 .1 .1 .1 .0) (ls
-      .1 .1 .1 .1 .1 .1 .1 .1 .1 .1 .0)))
+      keep ! (0 ∷ 8 ∷ 9 ∷ 10 ∷ 11 ∷ 12 ∷ 13 ∷ 14 ∷ 15 ∷ 16 ∷ 17 ∷ 18 ∷ 1 ∷ 2 ∷ 3 ∷ 4 ∷ 6 ∷ 19 ∷ []) $
+      by ! (loops 𝓣 known (ls .0) (ls .1 .0) (ls .1 .1 .0) (ls .1 .1 .1 .0) (ls .1 .1 .1 .1 .0)
+      (ls .1 .1 .1 .1 .1 .0) (ls .1 .1 .1 .1 .1 .1 .0) (ls .1 .1 .1 .1 .1 .1 .1 .0)
+      (ls .1 .1 .1 .1 .1 .1 .1 .1 .0) (ls .1 .1 .1 .1 .1 .1 .1 .1 .1 .0) (ls .1 .1 .1 .1 .1 .1 .1 .1 .1 .1 .0)))
 
 -- ---- from the walk to the contract
 

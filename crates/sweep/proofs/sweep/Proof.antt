@@ -22,7 +22,7 @@ use ghost.Atoms.{Atoms, sem}
 use contract.Monad.{Fun, fact}
 use contract.Running.{givenOf, tables, tablesOf}
 use types.Kit.{Given, Item, Seq, Post as PostOf, runs, lands, ‵, raw, some, given, later, _⊛_, ⋆, _$_, _∵_, !, qed, by, move, keep, drop, use0, use1, use2, use3, split, join, pick, learn, rewrite, fsplit, fjoin, feqL, suffices, frame, await, updating, now as at-once, show, check, done}
-use types.Run.{Opds, look, init, store, forget, stop, hop, fld, from, load, lit, addr, of-opd, and-then, no-more, assigns, land, returns, enter, params1, pass1, pass0}
+use types.Run.{Opds, look, init, store, stop, hop, fld, from, load, lit, addr, of-opd, and-then, no-more, assigns, land, returns, enter, params1, pass1, pass0}
 use types.Part.{agg, rep, whole, sub, look-in}
 use types.SemTy.{cells}
 use types.Tokens.{lft-new, lft-end}
@@ -280,8 +280,7 @@ module _ {M : Type 1} (𝓤 : URA M) (H : Heap 𝓤) (A : Atoms 𝓤) (W : Given
         (count, (length lent, (length route, tt))) ws)) (fact 𝓤 (b ≡ allowedOf count (length lent) (length route))))
 
     -- the call of `sweep_rows` over b blocks, with the plan in the local at l: the plan is lent to be read and the
-    -- table is
-    -- lent again, each for a lifetime of the call, and both come back
+    -- table is lent again, each for a lifetime of the call, and both come back
     module _ (b l : ℕ) where
       abbrev Lent : Type 0
       Lent = (ℕ × GName) × (ℕ × GName)
@@ -473,175 +472,163 @@ module _ {M : Type 1} (𝓤 : URA M) (H : Heap 𝓤) (A : Atoms 𝓤) (W : Given
     walk : ent 𝓤 (onEntry 𝓤 H A the-sweep.signature (κ₀, (κ₁, (κ₂, tt))) (q₀, (q₁, (q₂, tt))) a vals)
         (WpFn 𝓤 H C Λ code.function (s₀ ∷ s₁ ∷ s₂ ∷ []) Post)
     walk =
-        qed W ((‵ (flft κ₀ q₀) ⊛ ‵ (flft κ₁ q₁) ⊛ ‵ (flft κ₂ q₂) ⊛ ‵ ftrue) ∷ ‵
-        (owns (ShrSlice (named 0) κ₀ u8 ∷ MutSlice (named 1) κ₁ R ∷ MutSlice (named 2) κ₂ u8 ∷ []) a vals)
-        ∷ []) ∵ enter ! C Λ code.function (s₀ ∷ s₁ ∷ s₂ ∷ []) _ $ allocs-all ! (λ ls.
-        let l₄ = ls .1 .1 .1 .1 .0 in
-        let l₅ = ls .1 .1 .1 .1 .1 .0 in
-        let l₆ = ls .1 .1 .1 .1 .1 .1 .0 in
-        let l₈ = ls .1 .1 .1 .1 .1 .1 .1 .1 .0 in
-        let l₁₀ = ls .1 .1 .1 .1 .1 .1 .1 .1 .1 .1 .0 in
-        params1 ! $
-        pass1 ! (init ! 1 refl (tt, (tt, (record { fits = room₀ .0 }, tt)))) $
+        qed W ((‵ (flft κ₀ q₀) ⊛ ‵ (flft κ₁ q₁) ⊛ ‵ (flft κ₂ q₂) ⊛ ‵ ftrue) ∷ ‵ (owns (ShrSlice
+        (named 0) κ₀ u8 ∷ MutSlice (named 1) κ₁ R ∷ MutSlice (named 2) κ₂ u8 ∷ []) a vals) ∷ []) ∵ enter ! C Λ
+        code.function (s₀ ∷ s₁ ∷ s₂ ∷ []) _ $
+        allocs-all ! (λ ls. let l₄ = ls .1 .1 .1 .1 .0 in let l₅ = ls .1 .1 .1 .1 .1 .0 in let l₆ = ls .1 .1 .1 .1 .1
+        .1 .0 in let l₈ = ls .1 .1 .1 .1 .1 .1 .1 .1 .0 in let l₁₀ = ls .1 .1 .1 .1 .1 .1 .1 .1 .1 .1 .0 in params1 !
+        $ pass1 ! (init ! 1 refl (tt, (tt, (record { fits = room₀ .0 }, tt)))) $
         pass1 ! (init ! 2 refl (tt, (tt, (record { fits = room₁ .0 }, tt)))) $
-        pass1 ! (init ! 3 refl (tt, (tt, (record { fits = room₂ .0 }, tt)))) $
-        pass0 ! $
-        move ! (23 ∷ []) $ split ! $
-        move ! (1 ∷ []) $ split ! $
-        move ! (1 ∷ []) $ split ! $
-        move ! (27 ∷ []) $ fsplit ! $
-        move ! (1 ∷ []) $ fsplit ! $
-        move ! (1 ∷ []) $ fsplit ! $
+        pass1 ! (init ! 3 refl (tt, (tt, (record { fits = room₂ .0 }, tt)))) $ pass0 ! $ move ! (23 ∷ []) $ split ! $
+        move ! (1 ∷ []) $ split ! $ move ! (1 ∷ []) $ split ! $ move ! (27 ∷ []) $ fsplit ! $ move ! (1 ∷ []) $
+        fsplit ! $ move ! (1 ∷ []) $ fsplit ! $
         keep ! (3 ∷ 2 ∷ 0 ∷ 7 ∷ 6 ∷ 4 ∷ 8 ∷ 9 ∷ 10 ∷ 11 ∷ 12 ∷ 13 ∷ 14 ∷ 15 ∷ 16 ∷ 17 ∷ 18 ∷ 19 ∷ 20 ∷ 21 ∷ 22 ∷ 23 ∷
         24 ∷ 25 ∷ 26 ∷ 27 ∷ 28 ∷ 29 ∷ 30 ∷ []) $
         -- `prepare`, with a copy of what the form owns
-        move ! (0 ∷ []) $ use1 W (‵ Own₀ ⊛ ‵ Own₀) (shr-slice-copy 𝓤 H A W (named 0) κ₀ u8 .twice x₀ (s₀ ∷ [])) $ split
-        ! $
-        move ! (4 ∷ 0 ∷ []) $ use2 W (raw (Prepare 𝓤 H A mem run .pre to-prepare)) goes-prepare $
-        calls-at ! fm (Prepare 𝓤 H A mem run) known-prepare to-prepare (and-then ! (load ! (from ! (stop !)) (look ! 7
-        refl)) (no-more !)) (λ w₄.
-        use1 W (later (some (λ (r₄ : Prepared). ((‵ (flft κ₀ q₀) ⊛ ‵ ftrue) ⊛ ‵ (P.the-row .own r₄ (w₄ ∷ []))) ⊛ raw
-        (ensured 𝓤 H A the-prepare.ended (the-prepare.clauses 𝓤 H A mem run) (κ₀, tt) (x₀, tt) tt r₄))))
-        (id⊢ 𝓤 _) $ await ! tt $ pick ! (λ r₄.
-        split ! $ move ! (1 ∷ []) $ use1 W (raw (fact 𝓤 (PreparedOf form r₄))) (prepare-told r₄) $ heard !
-        (PreparedOf form r₄) (λ prep. split ! $ move ! (1 ∷ []) $ peeks ! P.the-row (Is P.the-row)
-        (shows 𝓤 H A P.the-row) r₄ (w₄ ∷ []) (λ is₄.
-        land ! (from ! (stop !)) (init ! 11 refl (LL.lawful P.the-type P′.the-laws 𝓤 H A W .typed r₄ _ is₄ .0)) $ drop
-        ! $ split ! $
+        move ! (0 ∷ []) $ use1 W (‵ Own₀ ⊛ ‵ Own₀) (shr-slice-copy 𝓤 H A W (named 0) κ₀ u8 .twice x₀ (s₀ ∷ [])) $
+        split ! $ move ! (4 ∷ 0 ∷ []) $ use2 W (raw (Prepare 𝓤 H A mem run .pre to-prepare)) goes-prepare $
+        calls-at ! fm (Prepare 𝓤 H A mem run) known-prepare to-prepare (and-then ! (load ! (from ! (stop !))
+        (look ! 7 refl)) (no-more !)) (λ w₄. use1 W (later (some (λ (r₄ : Prepared). ((‵
+        (flft κ₀ q₀) ⊛ ‵ ftrue) ⊛ ‵ (P.the-row .own r₄ (w₄ ∷ []))) ⊛ raw
+        (ensured 𝓤 H A the-prepare.ended (the-prepare.clauses 𝓤 H A mem run) (κ₀, tt) (x₀, tt) tt r₄)))) (id⊢ 𝓤 _) $
+        await ! tt $ pick ! (λ r₄. split ! $ move ! (1 ∷ []) $
+        use1 W (raw (fact 𝓤 (PreparedOf form r₄))) (prepare-told r₄) $ heard ! (PreparedOf form r₄) (λ prep. split ! $
+        move ! (1 ∷ []) $
+        peeks ! P.the-row (Is P.the-row) (shows 𝓤 H A P.the-row) r₄ (w₄ ∷ []) (λ is₄. land ! (from ! (stop !))
+        (init ! 11 refl (LL.lawful P.the-type P′.the-laws 𝓤 H A W .typed r₄ _ is₄ .0)) $ drop ! $ split ! $
         rewrite ! 11 (λ (v : Val). ‵ (fat fullShare P′.mir l₄ 0 v)) (ready-val-is r₄ w₄ is₄) refl $
         -- the plan is copied
-        assigns ! (of-opd ! (load ! (from ! (fld ! refl (stop !))) (look-in ! 11 (sub ! 4 refl (whole !))))) (from !
-        (stop !)) (init ! 12 refl (array-typed u64 (uint-lawful 𝓤 H A W w64 .typed) plan-size (r₄ .plan) _ (plan-are r₄
-        w₄ is₄) .0)) $
+        assigns ! (of-opd ! (load ! (from ! (fld ! refl (stop !))) (look-in ! 11 (sub ! 4 refl (whole !)))))
+        (from ! (stop !)) (init ! 12 refl (array-typed u64 (uint-lawful 𝓤 H A W w64 .typed) plan-size
+        (r₄ .plan) _ (plan-are r₄ w₄ is₄) .0)) $
         -- `allowed`
-        assigns ! (of-opd ! (load ! (from ! (fld ! refl (stop !))) (look-in ! 9 (sub ! 1 refl (whole !))))) (from !
-        (stop !)) (init ! 16 refl (tt, record { fits = room₁ .0 })) $
-        assigns ! (of-opd ! (load ! (from ! (fld ! refl (stop !))) (look-in ! 10 (sub ! 1 refl (whole !))))) (from !
-        (stop !)) (init ! 17 refl (tt, record { fits = room₂ .0 })) $
+        assigns ! (of-opd ! (load ! (from ! (fld ! refl (stop !))) (look-in ! 9 (sub ! 1 refl (whole !)))))
+        (from ! (stop !)) (init ! 16 refl (tt, record { fits = room₁ .0 })) $
+        assigns ! (of-opd ! (load ! (from ! (fld ! refl (stop !))) (look-in ! 10 (sub ! 1 refl (whole !)))))
+        (from ! (stop !)) (init ! 17 refl (tt, record { fits = room₂ .0 })) $
         use0 W (raw (Allowed 𝓤 H A mem run .pre (to-allowed r₄ w₄ is₄ prep))) (goes-allowed r₄ w₄ is₄ prep) $
-        calls-at ! fm (Allowed 𝓤 H A mem run) known-allowed (to-allowed r₄ w₄ is₄ prep) (and-then ! (load ! (from !
-        (fld ! refl (stop !))) (look-in ! 12 (sub ! 2 refl (whole !)))) (and-then ! (load ! (from ! (stop !)) (look !
-        17 refl)) (and-then ! (load ! (from ! (stop !)) (look ! 18 refl)) (no-more !)))) (λ w₆.
-        use1 W (later (some (λ (b : ℕ). (‵ ftrue ⊛ ‵ (usize .own b (w₆ ∷ []))) ⊛ raw
-        (ensured 𝓤 H A the-allowed.ended (the-allowed.clauses 𝓤 H A mem run) tt
-        (r₄ .count, (length lent, (length route, tt))) tt b)))) (id⊢ 𝓤 _) $ await ! tt $ pick ! (λ b.
-        split ! $ move ! (1 ∷ []) $ use1 W (raw (fact 𝓤 (b ≡ allowedOf (r₄ .count) (length lent) (length route))))
-        (allowed-told r₄ w₄ is₄ prep b) $ heard ! (b ≡ allowedOf (r₄ .count) (length lent) (length route))
-        (λ b-is. split ! $ move ! (1 ∷ []) $ peeks ! usize (Is usize) (shows 𝓤 H A usize) b (w₆ ∷ []) (λ is₆.
-        land ! (from ! (stop !)) (init ! 15 refl (uint-lawful 𝓤 H A W w64 .typed b _ is₆ .0)) $ rewrite ! 15 (λ (v :
-        Val). ‵ (fat fullShare (tyInt w64) l₆ 0 v)) (ap only (uint-tells w64 b _ is₆)) refl $ drop ! $ drop ! $
+        calls-at ! fm (Allowed 𝓤 H A mem run) known-allowed (to-allowed r₄ w₄ is₄ prep) (and-then ! (load !
+        (from ! (fld ! refl (stop !))) (look-in ! 12 (sub ! 2 refl (whole !)))) (and-then ! (load ! (from !
+        (stop !)) (look ! 17 refl)) (and-then ! (load ! (from ! (stop !)) (look ! 18 refl)) (no-more !))))
+        (λ w₆. use1 W (later (some (λ (b : ℕ). (‵ ftrue ⊛ ‵ (usize .own b (w₆ ∷ []))) ⊛ raw
+        (ensured 𝓤 H A the-allowed.ended (the-allowed.clauses 𝓤 H A mem run) tt (
+          r₄ .count,
+          (
+            length lent,
+            (length route, tt),
+          ),
+        ) tt b)))) (id⊢ 𝓤 _) $ await ! tt $ pick ! (λ b. split ! $ move ! (1 ∷ []) $
+        use1 W (raw (fact 𝓤 (b ≡ allowedOf (r₄ .count) (length lent) (length route))))
+        (allowed-told r₄ w₄ is₄ prep b) $
+        heard ! (b ≡ allowedOf (r₄ .count) (length lent) (length route)) (λ b-is. split ! $ move ! (1 ∷ []) $
+        peeks ! usize (Is usize) (shows 𝓤 H A usize) b (w₆ ∷ []) (λ is₆. land ! (from ! (stop !))
+        (init ! 15 refl (uint-lawful 𝓤 H A W w64 .typed b _ is₆ .0)) $
+        rewrite ! 15 (λ (v : Val). ‵ (fat fullShare (tyInt w64) l₆ 0 v)) (ap only (uint-tells w64 b _ is₆)) refl $
+        drop ! $ drop ! $
         -- `sweep_rows`
         assigns ! (addr ! (from ! (stop !))) (from ! (stop !)) (init ! 18 refl (tt, tt)) $
-        assigns ! (agg ! (and-then ! (load ! (from ! (stop !)) (look ! 18 refl)) (and-then ! (big-lit ! (record {
-          fits
-              = lit< tt;
-        })) (no-more !)))) (from ! (stop !)) (init ! 19 refl (tt, (tt, (record { fits = lit< tt }, tt)))) $
-        assigns ! (addr ! (from ! (fld ! refl (hop ! (look-in ! 9 (sub ! 0 refl (whole !))) (stop !))))) (from ! (stop
-        !)) (init ! 20 refl (tt, tt)) $
-        assigns ! (agg ! (and-then ! (load ! (from ! (stop !)) (look ! 20 refl)) (and-then ! (load ! (from ! (fld !
-        refl (stop !))) (look-in ! 9 (sub ! 1 refl (whole !)))) (no-more !)))) (from ! (stop !)) (init ! 21 refl (
+        assigns ! (agg ! (and-then ! (load ! (from ! (stop !)) (look ! 18 refl)) (and-then ! (big-lit !
+        (record { fits = lit< tt })) (no-more !)))) (from ! (stop !)) (init ! 19 refl (
           tt,
-          (tt, (record { fits = room₁ .0 }, tt)),
+          (
+            tt,
+            (record { fits = lit< tt }, tt),
+          ),
         )) $
-        move ! (12 ∷ []) $ use1 W (‵ (cells (mem-of u64) (r₄ .plan) l₅ 0))
-        (array-out u64 𝓤 H A W tt (uint-makes 𝓤 H A W w64) (r₄ .plan) _ plan-size l₅ (plan-are r₄ w₄ is₄)) $
-        move ! (0 ∷ 4 ∷ 6 ∷ []) $ rows-called r₄ w₄ is₄ prep b l₅ ! fm known-sweep-rows (is₆ .1) (rows-asked form r₄
-        prep lent route b b-is)
-        (λ _. (and-then ! (load ! (from ! (stop !)) (look ! 18 refl)) (and-then ! (load ! (from ! (stop !)) (look ! 12
-        refl)) (and-then ! (load ! (from ! (stop !)) (look ! 20 refl)) (no-more !)))))
-        (λ w₇ z known. land ! (from ! (stop !)) (init ! 14 refl (EL.lawful E.the-type E′.the-laws 𝓤 H A W tt .typed (z
-        .0) _ (known .1 .1) .0)) $
+        assigns ! (addr ! (from ! (fld ! refl (hop ! (look-in ! 9 (sub ! 0 refl (whole !))) (stop !))))) (from !
+        (stop !)) (init ! 20 refl (tt, tt)) $
+        assigns ! (agg ! (and-then ! (load ! (from ! (stop !)) (look ! 20 refl)) (and-then ! (load ! (from !
+        (fld ! refl (stop !))) (look-in ! 9 (sub ! 1 refl (whole !)))) (no-more !)))) (from ! (stop !))
+        (init ! 21 refl (tt, (tt, (record { fits = room₁ .0 }, tt)))) $ move ! (12 ∷ []) $
+        use1 W (‵ (cells (mem-of u64) (r₄ .plan) l₅ 0)) (array-out u64 𝓤 H A W tt (uint-makes 𝓤 H A W w64)
+        (r₄ .plan) _ plan-size l₅ (plan-are r₄ w₄ is₄)) $ move ! (0 ∷ 4 ∷ 6 ∷ []) $
+        rows-called r₄ w₄ is₄ prep b l₅ ! fm known-sweep-rows (is₆ .1) (rows-asked form r₄ prep lent route b b-is)
+        (λ _. (and-then ! (load ! (from ! (stop !)) (look ! 18 refl)) (and-then ! (load ! (from ! (stop !))
+        (look ! 12 refl)) (and-then ! (load ! (from ! (stop !)) (look ! 20 refl)) (no-more !)))))
+        (λ w₇ z known. land ! (from ! (stop !)) (init ! 14 refl (EL.lawful E.the-type E′.the-laws 𝓤 H A W tt .typed
+        (z .0) _ (known .1 .1) .0)) $
         -- `fetch` of row 0's entry
-        assigns ! (rep ! size (lit ! tt)) (from ! (stop !)) (init ! 15 refl (repeated-typed u64 0 (vint w64 0) zero-is
-        𝓤 H A W (uint-lawful 𝓤 H A W w64) size)) $
-        assigns ! (addr ! (from ! (fld ! refl (hop ! (look-in ! 10 (sub ! 0 refl (whole !))) (stop !))))) (from ! (stop
-        !)) (init ! 22 refl (tt, tt)) $
-        assigns ! (agg ! (and-then ! (load ! (from ! (stop !)) (look ! 22 refl)) (and-then ! (load ! (from ! (fld !
-        refl (stop !))) (look-in ! 10 (sub ! 1 refl (whole !)))) (no-more !)))) (from ! (stop !)) (init ! 23 refl (
-          tt,
-          (tt, (record { fits = room₁ .0 }, tt)),
-        )) $
-        use0 W (raw (Lesser 𝓤 H A mem run .pre (to-lesser r₄ w₄ is₄ prep b))) (goes-lesser r₄ w₄ is₄ prep b (is₆ .1)) $
-        calls-at ! fm (Lesser 𝓤 H A mem run) known-lesser (to-lesser r₄ w₄ is₄ prep b) (and-then ! (load ! (from !
-        (stop !)) (look ! 14 refl)) (and-then ! (lit ! tt) (no-more !))) (λ w₉.
-        use1 W (later (some (λ (m : ℕ). (‵ ftrue ⊛ ‵ (usize .own m (w₉ ∷ []))) ⊛ raw
-        (ensured 𝓤 H A the-lesser.ended (the-lesser.clauses 𝓤 H A mem run) tt (b, (1, tt)) tt m)))) (id⊢ 𝓤 _) $
-        await ! tt $ pick ! (λ m.
-        split ! $ move ! (1 ∷ []) $ use1 W (raw (fact 𝓤 (m ≡ min b 1))) (lesser-told r₄ w₄ is₄ prep b m) $ heard !
-        (m ≡ min b 1) (λ m-is. split ! $ move ! (1 ∷ []) $ peeks ! usize (Is usize) (shows 𝓤 H A usize) m (w₉ ∷ [])
-        (λ is₉.
-        land ! (from ! (stop !)) (store ! 19 refl (uint-lawful 𝓤 H A W w64 .typed m _ is₉ .0)) $ rewrite ! 19 (λ (v :
-        Val). ‵ (fat fullShare (tyInt w64) l₁₀ 0 v)) (ap only (uint-tells w64 m _ is₉)) refl $ drop ! $ drop ! $
-        assigns ! (addr ! (from ! (stop !))) (from ! (stop !)) (init ! 24 refl (tt, tt)) $
-        assigns ! (agg ! (and-then ! (load ! (from ! (stop !)) (look ! 24 refl)) (and-then ! (lit ! tt) (no-more !))))
-        (from ! (stop !)) (init ! 25 refl (tt, (tt, (record { fits = lit< tt }, tt)))) $
-        move ! (15 ∷ []) $ use1 W (some (λ (xs : List ℕ). given (xs ≡ replicate size 0) (‵ (cells (mem-of u64) xs l₈
-        0))))
-        (repeated-out u64 0 (vint w64 0) zero-is 𝓤 H A W tt (uint-makes 𝓤 H A W w64) size l₈) $ pick ! (λ xs. learn !
-        (λ xe.
-        move ! (0 ∷ 2 ∷ 3 ∷ []) $ fetches κ₁ q₁ γ₁ b₁ o₁ (z .1) (length lent) 0 m xs l₈ 𝓤 H A mem run W (named 1)
-        (known .0) ! fm
-        known-fetch (subst (Room R) (sym (known .0)) room₁) (lit< tt) (is₉ .1) (repeated-length xs size 0 xe)
-        (asked r₄ w₄ is₄ prep (z .1) b b-is (known .0) m m-is)
-        (λ _. (and-then ! (load ! (from ! (stop !)) (look ! 22 refl)) (and-then ! (lit ! tt) (and-then ! (load ! (from
-        ! (stop !)) (look ! 16 refl)) (and-then ! (load ! (from ! (stop !)) (look ! 24 refl)) (no-more !))))))
+        assigns ! (rep ! size (lit ! tt)) (from ! (stop !)) (init ! 15 refl (repeated-typed u64 0
+        (vint w64 0) zero-is 𝓤 H A W (uint-lawful 𝓤 H A W w64) size)) $
+        assigns ! (addr ! (from ! (fld ! refl (hop ! (look-in ! 10 (sub ! 0 refl (whole !))) (stop !)))))
+        (from ! (stop !)) (init ! 22 refl (tt, tt)) $
+        assigns ! (agg ! (and-then ! (load ! (from ! (stop !)) (look ! 22 refl)) (and-then ! (load ! (from !
+        (fld ! refl (stop !))) (look-in ! 10 (sub ! 1 refl (whole !)))) (no-more !)))) (from ! (stop !))
+        (init ! 23 refl (tt, (tt, (record { fits = room₁ .0 }, tt)))) $
+        use0 W (raw (Lesser 𝓤 H A mem run .pre (to-lesser r₄ w₄ is₄ prep b))) (goes-lesser r₄ w₄ is₄ prep b
+        (is₆ .1)) $
+        calls-at ! fm (Lesser 𝓤 H A mem run) known-lesser (to-lesser r₄ w₄ is₄ prep b) (and-then ! (load !
+        (from ! (stop !)) (look ! 14 refl)) (and-then ! (lit ! tt) (no-more !))) (λ w₉. use1 W (later (some (λ
+        (m : ℕ). (‵ ftrue ⊛ ‵ (usize .own m (w₉ ∷ []))) ⊛ raw (ensured 𝓤 H A the-lesser.ended
+        (the-lesser.clauses 𝓤 H A mem run) tt (b, (1, tt)) tt m)))) (id⊢ 𝓤 _) $ await ! tt $ pick ! (λ m. split ! $
+        move ! (1 ∷ []) $ use1 W (raw (fact 𝓤 (m ≡ min b 1))) (lesser-told r₄ w₄ is₄ prep b m) $
+        heard ! (m ≡ min b 1) (λ m-is. split ! $ move ! (1 ∷ []) $
+        peeks ! usize (Is usize) (shows 𝓤 H A usize) m (w₉ ∷ []) (λ is₉. land ! (from ! (stop !))
+        (store ! 19 refl (uint-lawful 𝓤 H A W w64 .typed m _ is₉ .0)) $
+        rewrite ! 19 (λ (v : Val). ‵ (fat fullShare (tyInt w64) l₁₀ 0 v)) (ap only (uint-tells w64 m _ is₉)) refl $
+        drop ! $ drop ! $ assigns ! (addr ! (from ! (stop !))) (from ! (stop !)) (init ! 24 refl (tt, tt)) $
+        assigns ! (agg ! (and-then ! (load ! (from ! (stop !)) (look ! 24 refl)) (and-then ! (lit ! tt)
+        (no-more !)))) (from ! (stop !)) (init ! 25 refl (tt, (tt, (record { fits = lit< tt }, tt)))) $
+        move ! (15 ∷ []) $
+        use1 W (some (λ (xs : List ℕ). given (xs ≡ replicate size 0) (‵ (cells (mem-of u64) xs l₈ 0))))
+        (repeated-out u64 0 (vint w64 0) zero-is 𝓤 H A W tt (uint-makes 𝓤 H A W w64) size l₈) $
+        pick ! (λ xs. learn ! (λ xe. move ! (0 ∷ 2 ∷ 3 ∷ []) $
+        fetches κ₁ q₁ γ₁ b₁ o₁ (z .1) (length lent) 0 m xs l₈ 𝓤 H A mem run W (named 1)
+        (known .0) ! fm known-fetch (subst (Room R) (sym (known .0)) room₁) (lit< tt) (is₉ .1)
+        (repeated-length xs size 0 xe) (asked r₄ w₄ is₄ prep (z .1) b b-is (known .0) m m-is) (λ _. (and-then !
+        (load ! (from ! (stop !)) (look ! 22 refl)) (and-then ! (lit ! tt) (and-then ! (load ! (from ! (stop !))
+        (look ! 16 refl)) (and-then ! (load ! (from ! (stop !)) (look ! 24 refl)) (no-more !))))))
         (λ w₈ r₈ is₈. land ! (from ! (stop !)) (store ! 16 refl (uint-lawful 𝓤 H A W w64 .typed r₈ _ is₈ .0)) $
-        move ! (2 ∷ []) $ use1 W (given (Is Ws (fetched xs (z .1) 0 m) (array-vals (uint-vals w64) (fetched xs (z .1) 0
-        m))) (‵ (fat fullShare (arrayTy u64 size) l₈ 0
-        (only (array-vals (uint-vals w64) (fetched xs (z .1) 0 m)))))) (array-back u64 𝓤 H A W (uint-vals w64)
-        (uint-tells w64) (fetched xs (z .1) 0 m) size l₈
-        (fetched-length xs (z .1) 0 m ∙ repeated-length xs size 0 xe)) $ learn ! (λ is-q.
+        move ! (2 ∷ []) $
+        use1 W (given (Is Ws (fetched xs (z .1) 0 m) (array-vals (uint-vals w64) (fetched xs (z .1) 0 m))) (‵
+        (fat fullShare (arrayTy u64 size) l₈ 0 (only (array-vals (uint-vals w64) (fetched xs
+        (z .1) 0 m)))))) (array-back u64 𝓤 H A W (uint-vals w64) (uint-tells w64) (fetched xs
+        (z .1) 0 m) size l₈ (fetched-length xs (z .1) 0 m ∙ repeated-length xs size 0 xe)) $ learn ! (λ is-q.
         -- `conclude`, with the route for good
-        assigns ! (of-opd ! (load ! (from ! (fld ! refl (stop !))) (look-in ! 11 (sub ! 1 refl (whole !))))) (from !
-        (stop !)) (store ! 16 refl (tt, record { fits = room₁ .0 })) $
-        assigns ! (of-opd ! (load ! (from ! (stop !)) (look ! 0 refl))) (from ! (stop !)) (init ! 26 refl (array-typed
-        u64 (uint-lawful 𝓤 H A W w64 .typed) size (fetched xs (z .1) 0 m) _ is-q .0)) $
-        assigns ! (addr ! (from ! (fld ! refl (hop ! (look-in ! 12 (sub ! 0 refl (whole !))) (stop !))))) (from ! (stop
-        !)) (init ! 27 refl (tt, tt)) $
-        assigns ! (agg ! (and-then ! (load ! (from ! (stop !)) (look ! 27 refl)) (and-then ! (load ! (from ! (fld !
-        refl (stop !))) (look-in ! 12 (sub ! 1 refl (whole !)))) (no-more !)))) (from ! (stop !)) (init ! 28 refl (
-          tt,
-          (tt, (record { fits = room₂ .0 }, tt)),
-        )) $
-        move ! (8 ∷ 7 ∷ []) $ use2 W (raw (Conclude 𝓤 H A mem run .pre (to-conclude r₄ w₄ is₄ prep (z .0) w₇ (fetched
-        xs (z .1) 0 m) (only (array-vals (uint-vals w64) (fetched xs (z .1) 0 m)))))) (goes-conclude r₄ w₄ is₄ prep (z
-        .0) w₇ (known .1 .1)
-        (fetched xs (z .1) 0 m) (only (array-vals (uint-vals w64) (fetched xs (z .1) 0 m))) is-q (light form r₄ prep
-        lent route b b-is (z .1) (z .0) (known .0) (known .1 .0) (fetched xs (z .1) 0 m) (first-is r₄ w₄ is₄ prep (z
-        .1) b m m-is xs xe))) $
-        calls-at ! fm (Conclude 𝓤 H A mem run) known-conclude (to-conclude r₄ w₄ is₄ prep (z .0) w₇ (fetched xs (z .1)
-        0 m) (only (array-vals (uint-vals w64) (fetched xs (z .1) 0 m)))) (and-then ! (load ! (from ! (stop !)) (look !
-        12 refl)) (and-then ! (load ! (from ! (stop !)) (look ! 15 refl)) (and-then ! (load ! (from ! (stop !)) (look !
-        14 refl)) (and-then ! (load ! (from ! (stop !)) (look ! 25 refl)) (and-then ! (load ! (from ! (stop !)) (look !
-        27 refl)) (no-more !)))))) (λ w.
-        use1 W (later (some (λ (r : SweepAnswer). ((‵ (flft κ₂ q₂) ⊛ ‵ ftrue) ⊛ ‵ (S.the-row .own r (w ∷ []))) ⊛ raw
-        (ensured 𝓤 H A the-conclude.ended (the-conclude.clauses 𝓤 H A mem run) (κ₂, tt) (conclude-args r₄ w₄ is₄ prep
-        (z .0) (fetched xs (z .1) 0 m)) tt r)))) (id⊢ 𝓤 _) $
-        await ! tt $ pick ! (λ r. split ! $ move ! (1 ∷ []) $ use1 W (some (λ (hs : Unit {0} ×
-        (Unit {0} × (Unit {0} × (Unit {0} × (List ℕ × Unit {0}))))). ‵
-        (lasts the-conclude.ended (κ₂, tt) (conclude-args r₄ w₄ is₄ prep (z .0) (fetched xs (z .1) 0 m)) hs) ⊛ raw
-        (fact 𝓤 ((r, hs .1 .1 .1 .1 .0) ≡ concluded r₄ (length lent) (z .0) (fetched xs (z .1) 0 m) route)))) (id⊢ 𝓤 _)
-        $
-        pick ! (λ hs. split ! $ move ! (1 ∷ []) $ heard ! ((r, hs .1 .1 .1 .1 .0) ≡ concluded r₄ (length lent) (z .0)
-        (fetched xs (z .1) 0 m) route) (λ made. fsplit ! $ drop ! $ fsplit ! $ drop ! $ fsplit ! $ drop ! $ fsplit ! $
-        drop ! $ fsplit ! $ fsplit ! $ move ! (1 ∷ []) $ feqL ! (λ hl.
-        move ! (2 ∷ []) $ split ! $ move ! (1 ∷ []) $ peeks ! S.the-row (Is S.the-row) (shows 𝓤 H A S.the-row) r
-        (w ∷ []) (λ is.
-        land ! (from ! (stop !)) (init ! 11 refl (EL.lawful S.the-type S′.the-laws 𝓤 H A W tt .typed r _ is .0)) $ drop
-        ! $ split ! $
-        move ! (7 ∷ []) $ use1 W (some (λ (v : Val). ‵ (fat fullShare (arrayTy u64 plan-size) l₅ 0 v)))
-        (array-in u64 𝓤 H A W (uint-vals w64) (uint-tells w64) (r₄ .plan) plan-size l₅ (plan-length r₄ w₄ is₄)) $ pick
-        ! (λ v₅.
-        returns ! (look ! 11 refl) $
+        assigns ! (of-opd ! (load ! (from ! (fld ! refl (stop !))) (look-in ! 11 (sub ! 1 refl (whole !)))))
+        (from ! (stop !)) (store ! 16 refl (tt, record { fits = room₁ .0 })) $
+        assigns ! (of-opd ! (load ! (from ! (stop !)) (look ! 0 refl))) (from ! (stop !)) (init ! 26 refl
+        (array-typed u64 (uint-lawful 𝓤 H A W w64 .typed) size (fetched xs (z .1) 0 m) _ is-q .0)) $
+        assigns ! (addr ! (from ! (fld ! refl (hop ! (look-in ! 12 (sub ! 0 refl (whole !))) (stop !)))))
+        (from ! (stop !)) (init ! 27 refl (tt, tt)) $
+        assigns ! (agg ! (and-then ! (load ! (from ! (stop !)) (look ! 27 refl)) (and-then ! (load ! (from !
+        (fld ! refl (stop !))) (look-in ! 12 (sub ! 1 refl (whole !)))) (no-more !)))) (from ! (stop !))
+        (init ! 28 refl (tt, (tt, (record { fits = room₂ .0 }, tt)))) $ move ! (8 ∷ 7 ∷ []) $
+        use2 W (raw (Conclude 𝓤 H A mem run .pre (to-conclude r₄ w₄ is₄ prep (z .0) w₇ (fetched xs (z .1) 0 m)
+        (only (array-vals (uint-vals w64) (fetched xs (z .1) 0 m)))))) (goes-conclude r₄ w₄ is₄ prep (z .0) w₇
+        (known .1 .1) (fetched xs (z .1) 0 m) (only (array-vals (uint-vals w64) (fetched xs (z .1) 0 m))) is-q
+        (light form r₄ prep lent route b b-is (z .1) (z .0) (known .0) (known .1 .0) (fetched xs (z .1) 0 m)
+        (first-is r₄ w₄ is₄ prep (z .1) b m m-is xs xe))) $
+        calls-at ! fm (Conclude 𝓤 H A mem run) known-conclude (to-conclude r₄ w₄ is₄ prep (z .0) w₇ (fetched xs
+        (z .1) 0 m) (only (array-vals (uint-vals w64) (fetched xs (z .1) 0 m)))) (and-then ! (load ! (from !
+        (stop !)) (look ! 12 refl)) (and-then ! (load ! (from ! (stop !)) (look ! 15 refl)) (and-then ! (load !
+        (from ! (stop !)) (look ! 14 refl)) (and-then ! (load ! (from ! (stop !)) (look ! 25 refl)) (and-then !
+        (load ! (from ! (stop !)) (look ! 27 refl)) (no-more !)))))) (λ w. use1 W (later (some (λ
+        (r : SweepAnswer). ((‵ (flft κ₂ q₂) ⊛ ‵ ftrue) ⊛ ‵ (S.the-row .own r (w ∷ []))) ⊛ raw
+        (ensured 𝓤 H A the-conclude.ended (the-conclude.clauses 𝓤 H A mem run) (κ₂, tt)
+        (conclude-args r₄ w₄ is₄ prep (z .0) (fetched xs (z .1) 0 m)) tt r)))) (id⊢ 𝓤 _) $ await ! tt $
+        pick ! (λ r. split ! $ move ! (1 ∷ []) $
+        use1 W (some (λ (hs : Unit {0} × (Unit {0} × (Unit {0} × (Unit {0} × (List ℕ × Unit {0}))))). ‵
+        (lasts the-conclude.ended (κ₂, tt) (conclude-args r₄ w₄ is₄ prep (z .0) (fetched xs
+        (z .1) 0 m)) hs) ⊛ raw (fact 𝓤 ((r, hs .1 .1 .1 .1 .0) ≡ concluded r₄ (length lent) (z .0) (fetched xs
+        (z .1) 0 m) route)))) (id⊢ 𝓤 _) $ pick ! (λ hs. split ! $ move ! (1 ∷ []) $
+        heard ! ((r, hs .1 .1 .1 .1 .0) ≡ concluded r₄ (length lent) (z .0) (fetched xs (z .1) 0 m) route)
+        (λ made. fsplit ! $ drop ! $ fsplit ! $ drop ! $ fsplit ! $ drop ! $ fsplit ! $ drop ! $ fsplit ! $ fsplit ! $
+        move ! (1 ∷ []) $ feqL ! (λ hl. move ! (2 ∷ []) $ split ! $ move ! (1 ∷ []) $
+        peeks ! S.the-row (Is S.the-row) (shows 𝓤 H A S.the-row) r (w ∷ []) (λ is. land ! (from ! (stop !))
+        (init ! 11 refl (EL.lawful S.the-type S′.the-laws 𝓤 H A W tt .typed r _ is .0)) $ drop ! $ split ! $
+        move ! (7 ∷ []) $
+        use1 W (some (λ (v : Val). ‵ (fat fullShare (arrayTy u64 plan-size) l₅ 0 v))) (array-in u64 𝓤 H A W
+        (uint-vals w64) (uint-tells w64) (r₄ .plan) plan-size l₅ (plan-length r₄ w₄ is₄)) $
+        pick ! (λ v₅. returns ! (look ! 11 refl) $
         keep ! (11 ∷ 12 ∷ 13 ∷ 14 ∷ 15 ∷ 0 ∷ 16 ∷ 17 ∷ 5 ∷ 18 ∷ 19 ∷ 20 ∷ 21 ∷ 22 ∷ 23 ∷ 24 ∷ 25 ∷ 26 ∷ 27 ∷ 28 ∷ 29 ∷
-        30 ∷ 31 ∷ 8 ∷ 7 ∷ 1 ∷ 10 ∷ 6 ∷ 3 ∷ []) $ by ! (free-all 𝓤 H A W (envOf 𝓤 H (code.function .locals) ls)
-        (has _ ∷ has _ ∷ has _ ∷ has _ ∷ has _ ∷ has _ ∷ has _ ∷ has _ ∷ has _ ∷ has _ ∷ has _ ∷ has _ ∷ has _ ∷ has _
-        ∷ has _ ∷ has _ ∷ has _ ∷ has _ ∷ has _ ∷ has _ ∷ has _ ∷ has _ ∷ [])
-        (Had (z .1) (hs .1 .1 .1 .1 .0)) (Post w) (exits r w is (hs .1 .1 .1 .1 .0) (z .1) hl (known .0)
-        (ended form r₄ prep lent route b b-is (z .1) (z .0) (known .0) (known .1 .0) (fetched xs (z .1) 0 m) (first-is
-        r₄ w₄ is₄ prep (z .1) b m m-is xs xe) r (hs .1 .1 .1 .1 .0)
-        (made ∙ ap (λ (n : ℕ). concluded r₄ n (z .0) (fetched xs (z .1) 0 m) route) (sym (known
-        .0)))))))))))))))))))))))))))))))
+        30 ∷ 31 ∷ 8 ∷ 7 ∷ 1 ∷ 10 ∷ 6 ∷ 3 ∷ []) $
+        by ! (free-all 𝓤 H A W (envOf 𝓤 H (code.function .locals) ls) (has _ ∷ has _ ∷ has _ ∷ has _ ∷ has _ ∷ has _ ∷
+        has _ ∷ has _ ∷ has _ ∷ has _ ∷ has _ ∷ has _ ∷ has _ ∷ has _ ∷ has _ ∷ has _ ∷ has _ ∷ has _ ∷ has _ ∷ has _
+        ∷ has _ ∷ has _ ∷ []) (Had (z .1) (hs .1 .1 .1 .1 .0)) (Post w) (exits r w is (hs .1 .1 .1 .1 .0)
+        (z .1) hl (known .0) (ended form r₄ prep lent route b b-is (z .1) (z .0) (known .0) (known .1 .0)
+        (fetched xs (z .1) 0 m) (first-is r₄ w₄ is₄ prep (z .1) b m m-is xs xe) r (hs .1 .1 .1 .1 .0) (made ∙ ap (λ
+        (n : ℕ). concluded r₄ n (z .0) (fetched xs (z .1) 0 m) route) (sym (known .0)))))))))))))))))))))))))))))))
 
 -- ---- from the walk to the contract
 

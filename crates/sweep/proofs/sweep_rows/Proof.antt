@@ -25,7 +25,7 @@ use ghost.Atoms.{Atoms, sem}
 use contract.Monad.{Fun, fact}
 use contract.Running.{givenOf, tables, tablesOf}
 use types.Kit.{Given, Item, ‵, raw, some, given, later, _⊛_, ⋆, anyQ, atRet, _$_, _∵_, !, qed, by, move, keep, drop, use0, use1, use2, split, join, pick, learn, rewrite, fsplit, fjoin, suffices, frame, await, done}
-use types.Run.{look, init, store, forget, stop, hop, fld, from, load, lit, addr, of-opd, and-then, no-more, assigns, stays, leaves-loop, land, land-last, returns, enter, params1, pass1, pass0, exec}
+use types.Run.{look, init, store, stop, hop, fld, from, load, lit, addr, of-opd, and-then, no-more, assigns, stays, leaves-loop, land, land-last, returns, enter, params1, pass1, pass0, exec}
 use types.Part.{agg, rep, whole, sub, look-in}
 use types.SemTy.{cells}
 use sound.Loop.{loop-rule}
@@ -488,160 +488,133 @@ module _ {M : Type 1} (𝓤 : URA M) (H : Heap 𝓤) (A : Atoms 𝓤) (W : Given
           unfolding afterTurn
           more X then =
               qed W (At at ts f g m) ∵ exec ! C Λ En body.turn-1 (anyQ (afterTurn 𝓤 H X Left)) $
-              assigns ! (of-opd ! (load ! (from ! (fld ! refl (stop !))) (look-in ! 33 (sub ! 0 refl (whole !)))))
-              (from !
-              (stop !)) (init ! 2 refl (tt, tt)) $
+              assigns ! (of-opd ! (load ! (from ! (fld ! refl (stop !))) (look-in ! 33 (sub ! 0 refl
+              (whole !))))) (from ! (stop !)) (init ! 2 refl (tt, tt)) $
               rewrite ! 2 (λ (t : Bool). ‵ (fat fullShare tyBool l₁₀ 0 (vbool t))) goes-on refl $
               stays ! (load ! (from ! (stop !)) (look ! 2 refl)) $
               -- `sources_of`, with a copy of what the plan owns
-              move ! (23 ∷ []) $ use1 W (‵ Own₀ ⊛ ‵ Own₀) (shr-slice-copy 𝓤 H A W (named 0) κ₀ u64 .twice x₀ (s₀ ∷
-              [])) $
+              move ! (23 ∷ []) $
+              use1 W (‵ Own₀ ⊛ ‵ Own₀) (shr-slice-copy 𝓤 H A W (named 0) κ₀ u64 .twice x₀ (s₀ ∷ [])) $ split ! $
+              move ! (25 ∷ 0 ∷ []) $
+              use2 W (raw (SourcesOf 𝓤 H A mem run .pre (to-sources at))) (goes-sources at ts at-is ready) $
+              calls-at ! fm (SourcesOf 𝓤 H A mem run) known-sources (to-sources at) (and-then ! (load ! (from !
+              (stop !)) (look ! 30 refl)) (and-then ! (load ! (from ! (stop !)) (look ! 33 refl)) (no-more !)))
+              (λ w. use1 W (later (some (λ (r : Sources). ((‵ (flft κ₀ q₀) ⊛ ‵ ftrue) ⊛ ‵ (S.the-row .own r
+              (w ∷ []))) ⊛ raw (ensured 𝓤 H A the-sources.ended (the-sources.clauses 𝓤 H A mem run) (κ₀, tt) (
+                x₀,
+                (at, tt),
+              ) tt r)))) (id⊢ 𝓤 _) $ await ! tt $ pick ! (λ r. split ! $ move ! (1 ∷ []) $
+              use1 W (raw (fact 𝓤 (r ≡ sourcesOf plan (at .lengths) (at .b - 1)))) (sources-told at r) $
+              heard ! (r ≡ sourcesOf plan (at .lengths) (at .b - 1)) (λ e. split ! $ move ! (1 ∷ []) $
+              peeks ! S.the-row (Is S.the-row) (shows 𝓤 H A S.the-row) r (w ∷ []) (λ is. land ! (from !
+              (stop !)) (init ! 3 refl (LL.lawful S.the-type S′.the-laws 𝓤 H A W .typed r _ is .0)) $ drop ! $
               split ! $
-              move ! (25 ∷ 0 ∷ []) $ use2 W (raw (SourcesOf 𝓤 H A mem run .pre (to-sources at))) (goes-sources at ts
-              at-is
-              ready) $
-              calls-at ! fm (SourcesOf 𝓤 H A mem run) known-sources (to-sources at) (and-then ! (load ! (from ! (stop
-              !))
-              (look ! 30 refl)) (and-then ! (load ! (from ! (stop !)) (look ! 33 refl)) (no-more !))) (λ w.
-              use1 W (later (some (λ (r : Sources). ((‵ (flft κ₀ q₀) ⊛ ‵ ftrue) ⊛ ‵ (S.the-row .own r (w ∷ []))) ⊛ raw
-              (ensured 𝓤 H A the-sources.ended (the-sources.clauses 𝓤 H A mem run) (κ₀, tt) (x₀, (at, tt)) tt r))))
-              (id⊢ 𝓤 _) $ await ! tt $ pick ! (λ r. split ! $ move ! (1 ∷ []) $
-              use1 W (raw (fact 𝓤 (r ≡ sourcesOf plan (at .lengths) (at .b - 1)))) (sources-told at r) $ heard !
-              (r ≡ sourcesOf plan (at .lengths) (at .b - 1)) (λ e. split ! $ move ! (1 ∷ []) $ peeks ! S.the-row (Is
-              S.the-row)
-              (shows 𝓤 H A S.the-row) r (w ∷ []) (λ is.
-              land ! (from ! (stop !)) (init ! 3 refl (LL.lawful S.the-type S′.the-laws 𝓤 H A W .typed r _ is .0)) $
-              drop !
-              $ split ! $
-              rewrite ! 3 (λ (v : Val). ‵ (fat fullShare sourcesTy l₈ 0 v)) (ap only (LL.tells S.the-type S′.the-laws
-              r _
-              is)) refl $
+              rewrite ! 3 (λ (v : Val). ‵ (fat fullShare sourcesTy l₈ 0 v)) (ap only
+              (LL.tells S.the-type S′.the-laws r _ is)) refl $
               -- `fetch` of the jump target's row
-              assigns ! (addr ! (from ! (fld ! refl (hop ! (look-in ! 33 (sub ! 0 refl (whole !))) (stop !))))) (from !
-              (stop !)) (init ! 7 refl (tt, tt)) $
-              assigns ! (agg ! (and-then ! (load ! (from ! (stop !)) (look ! 7 refl)) (and-then ! (load ! (from ! (fld !
-              refl (stop !))) (look-in ! 33 (sub ! 1 refl (whole !)))) (no-more !)))) (from ! (stop !)) (init ! 8 refl (
-                tt,
-                (tt, (record { fits = room₁ .0 }, tt)),
-              )) $
+              assigns ! (addr ! (from ! (fld ! refl (hop ! (look-in ! 33 (sub ! 0 refl (whole !))) (stop !)))))
+              (from ! (stop !)) (init ! 7 refl (tt, tt)) $
+              assigns ! (agg ! (and-then ! (load ! (from ! (stop !)) (look ! 7 refl)) (and-then ! (load ! (from !
+              (fld ! refl (stop !))) (look-in ! 33 (sub ! 1 refl (whole !)))) (no-more !)))) (from ! (stop !))
+              (init ! 8 refl (tt, (tt, (record { fits = room₁ .0 }, tt)))) $
               assigns ! (addr ! (from ! (stop !))) (from ! (stop !)) (init ! 9 refl (tt, tt)) $
-              assigns ! (agg ! (and-then ! (load ! (from ! (stop !)) (look ! 9 refl)) (and-then ! (lit ! tt) (no-more
-              !))))
-              (from ! (stop !)) (init ! 10 refl (tt, (tt, (record { fits = lit< tt }, tt)))) $
-              move ! (27 ∷ 25 ∷ 26 ∷ []) $ fetches κ₁ q₁ γ₁ b₁ o₁ ts (length lent) (r .jump) (r .jumps) f l₄ 𝓤 H A
-              mem run W
-              (named 1) same ! fm known-fetch room-ts (jump-fits r w is) (jumps-fit r w is) f-size (jump-asked plan
-              count
-              at ts ready r e)
-              (λ _. (and-then ! (load ! (from ! (stop !)) (look ! 10 refl)) (and-then ! (load ! (from ! (fld ! refl
-              (stop
-              !))) (look-in ! 5 (sub ! 1 refl (whole !)))) (and-then ! (load ! (from ! (fld ! refl (stop !)))
-              (look-in ! 5
-              (sub ! 2 refl (whole !)))) (and-then ! (load ! (from ! (stop !)) (look ! 12 refl)) (no-more !))))))
+              assigns ! (agg ! (and-then ! (load ! (from ! (stop !)) (look ! 9 refl)) (and-then ! (lit ! tt)
+              (no-more !)))) (from ! (stop !)) (init ! 10 refl (tt, (tt, (record { fits = lit< tt }, tt)))) $
+              move ! (27 ∷ 25 ∷ 26 ∷ []) $
+              fetches κ₁ q₁ γ₁ b₁ o₁ ts (length lent) (r .jump) (r .jumps) f l₄ 𝓤 H A mem run W
+              (named 1) same ! fm known-fetch room-ts (jump-fits r w is) (jumps-fit r w is) f-size
+              (jump-asked plan count at ts ready r e) (λ _. (and-then ! (load ! (from ! (stop !))
+              (look ! 10 refl)) (and-then ! (load ! (from ! (fld ! refl (stop !))) (look-in ! 5 (sub ! 1 refl
+              (whole !)))) (and-then ! (load ! (from ! (fld ! refl (stop !))) (look-in ! 5 (sub ! 2 refl
+              (whole !)))) (and-then ! (load ! (from ! (stop !)) (look ! 12 refl)) (no-more !))))))
               (λ w₁ n₁ is₁. land ! (from ! (stop !)) (init ! 9 refl (uint-lawful 𝓤 H A W w64 .typed n₁ _ is₁ .0)) $
               -- and of the fall target's
-              assigns ! (addr ! (from ! (fld ! refl (hop ! (look-in ! 33 (sub ! 0 refl (whole !))) (stop !))))) (from !
-              (stop !)) (init ! 14 refl (tt, tt)) $
-              assigns ! (agg ! (and-then ! (load ! (from ! (stop !)) (look ! 14 refl)) (and-then ! (load ! (from !
-              (fld !
-              refl (stop !))) (look-in ! 33 (sub ! 1 refl (whole !)))) (no-more !)))) (from ! (stop !)) (init ! 15 refl
-              (tt, (tt, (record { fits = room₁ .0 }, tt)))) $
+              assigns ! (addr ! (from ! (fld ! refl (hop ! (look-in ! 33 (sub ! 0 refl (whole !))) (stop !)))))
+              (from ! (stop !)) (init ! 14 refl (tt, tt)) $
+              assigns ! (agg ! (and-then ! (load ! (from ! (stop !)) (look ! 14 refl)) (and-then ! (load !
+              (from ! (fld ! refl (stop !))) (look-in ! 33 (sub ! 1 refl (whole !)))) (no-more !)))) (from !
+              (stop !)) (init ! 15 refl (tt, (tt, (record { fits = room₁ .0 }, tt)))) $
               assigns ! (addr ! (from ! (stop !))) (from ! (stop !)) (init ! 16 refl (tt, tt)) $
-              assigns ! (agg ! (and-then ! (load ! (from ! (stop !)) (look ! 16 refl)) (and-then ! (lit ! tt) (no-more
-              !)))) (from ! (stop !)) (init ! 17 refl (tt, (tt, (record { fits = lit< tt }, tt)))) $
-              move ! (28 ∷ 0 ∷ 1 ∷ []) $ fetches κ₁ q₁ γ₁ b₁ o₁ ts (length lent) (r .fall) (r .falls) g l₅ 𝓤 H A mem
-              run W
-              (named 1) same ! fm known-fetch room-ts (fall-fits r w is) (falls-fit r w is) g-size (fall-asked plan
-              count
-              at ts ready r e)
-              (λ _. (and-then ! (load ! (from ! (stop !)) (look ! 15 refl)) (and-then ! (load ! (from ! (fld ! refl
-              (stop
-              !))) (look-in ! 6 (sub ! 3 refl (whole !)))) (and-then ! (load ! (from ! (fld ! refl (stop !)))
-              (look-in ! 6
-              (sub ! 4 refl (whole !)))) (and-then ! (load ! (from ! (stop !)) (look ! 17 refl)) (no-more !))))))
+              assigns ! (agg ! (and-then ! (load ! (from ! (stop !)) (look ! 16 refl)) (and-then ! (lit ! tt)
+              (no-more !)))) (from ! (stop !)) (init ! 17 refl (tt, (tt, (record { fits = lit< tt }, tt)))) $
+              move ! (28 ∷ 0 ∷ 1 ∷ []) $
+              fetches κ₁ q₁ γ₁ b₁ o₁ ts (length lent) (r .fall) (r .falls) g l₅ 𝓤 H A mem run W
+              (named 1) same ! fm known-fetch room-ts (fall-fits r w is) (falls-fit r w is) g-size
+              (fall-asked plan count at ts ready r e) (λ _. (and-then ! (load ! (from ! (stop !))
+              (look ! 15 refl)) (and-then ! (load ! (from ! (fld ! refl (stop !))) (look-in ! 6 (sub ! 3 refl
+              (whole !)))) (and-then ! (load ! (from ! (fld ! refl (stop !))) (look-in ! 6 (sub ! 4 refl
+              (whole !)))) (and-then ! (load ! (from ! (stop !)) (look ! 17 refl)) (no-more !))))))
               (λ w₂ n₂ is₂. land ! (from ! (stop !)) (store ! 10 refl (uint-lawful 𝓤 H A W w64 .typed n₂ _ is₂ .0)) $
               -- `make`
               assigns ! (addr ! (from ! (stop !))) (from ! (stop !)) (init ! 19 refl (tt, tt)) $
-              assigns ! (agg ! (and-then ! (load ! (from ! (stop !)) (look ! 19 refl)) (and-then ! (lit ! tt) (no-more
-              !)))) (from ! (stop !)) (init ! 20 refl (tt, (tt, (record { fits = lit< tt }, tt)))) $
+              assigns ! (agg ! (and-then ! (load ! (from ! (stop !)) (look ! 19 refl)) (and-then ! (lit ! tt)
+              (no-more !)))) (from ! (stop !)) (init ! 20 refl (tt, (tt, (record { fits = lit< tt }, tt)))) $
               assigns ! (addr ! (from ! (stop !))) (from ! (stop !)) (init ! 21 refl (tt, tt)) $
-              assigns ! (agg ! (and-then ! (load ! (from ! (stop !)) (look ! 21 refl)) (and-then ! (lit ! tt) (no-more
-              !)))) (from ! (stop !)) (init ! 22 refl (tt, (tt, (record { fits = lit< tt }, tt)))) $
+              assigns ! (agg ! (and-then ! (load ! (from ! (stop !)) (look ! 21 refl)) (and-then ! (lit ! tt)
+              (no-more !)))) (from ! (stop !)) (init ! 22 refl (tt, (tt, (record { fits = lit< tt }, tt)))) $
               assigns ! (addr ! (from ! (stop !))) (from ! (stop !)) (init ! 23 refl (tt, tt)) $
-              assigns ! (agg ! (and-then ! (load ! (from ! (stop !)) (look ! 23 refl)) (and-then ! (lit ! tt) (no-more
-              !)))) (from ! (stop !)) (init ! 24 refl (tt, (tt, (record { fits = lit< tt }, tt)))) $
-              move ! (4 ∷ 6 ∷ 3 ∷ 2 ∷ 29 ∷ []) $ makes κ₀ q₀ γ₀ b₀ o₀ plan count r (first r) l₄ (second r) l₅ m l₆ 𝓤 H A
-              mem run W !
-              fm known-make count-fits (sources-are r w is) (first-size r) (second-size r) m-size
-              (make-asked plan count at ts ready r e f f-size g g-size)
-              (λ _. (and-then ! (load ! (from ! (stop !)) (look ! 28 refl)) (and-then ! (load ! (from ! (stop !))
-              (look !
-              29 refl)) (and-then ! (load ! (from ! (stop !)) (look ! 5 refl)) (and-then ! (load ! (from ! (stop !))
-              (look
-              ! 18 refl)) (and-then ! (load ! (from ! (stop !)) (look ! 20 refl)) (and-then ! (load ! (from ! (stop !))
-              (look ! 22 refl)) (no-more !))))))))
-              (λ w₃ z known. land ! (from ! (stop !)) (init ! 9 refl (LL.lawful B.the-type B′.the-laws 𝓤 H A W .typed (z
-              .1) _ (known .1 .1) .0)) $
+              assigns ! (agg ! (and-then ! (load ! (from ! (stop !)) (look ! 23 refl)) (and-then ! (lit ! tt)
+              (no-more !)))) (from ! (stop !)) (init ! 24 refl (tt, (tt, (record { fits = lit< tt }, tt)))) $
+              move ! (4 ∷ 6 ∷ 3 ∷ 2 ∷ 29 ∷ []) $
+              makes κ₀ q₀ γ₀ b₀ o₀ plan count r (first r) l₄ (second r) l₅ m l₆ 𝓤 H A mem run W ! fm known-make
+              count-fits (sources-are r w is) (first-size r) (second-size r) m-size
+              (make-asked plan count at ts ready r e f f-size g g-size) (λ _. (and-then ! (load ! (from !
+              (stop !)) (look ! 28 refl)) (and-then ! (load ! (from ! (stop !)) (look ! 29 refl)) (and-then !
+              (load ! (from ! (stop !)) (look ! 5 refl)) (and-then ! (load ! (from ! (stop !))
+              (look ! 18 refl)) (and-then ! (load ! (from ! (stop !)) (look ! 20 refl)) (and-then ! (load !
+              (from ! (stop !)) (look ! 22 refl)) (no-more !)))))))) (λ w₃ z known. land ! (from ! (stop !))
+              (init ! 9 refl (LL.lawful B.the-type B′.the-laws 𝓤 H A W .typed (z .1) _ (known .1 .1) .0)) $
               rewrite ! 9 (λ (v : Val). ‵ (fat fullShare builtTy l₉ 0 v)) (ap only (LL.tells B.the-type B′.the-laws
-              (z .1)
-              _ (known .1 .1))) refl $
+              (z .1) _ (known .1 .1))) refl $
               -- `store`
-              assigns ! (addr ! (from ! (fld ! refl (hop ! (look-in ! 33 (sub ! 0 refl (whole !))) (stop !))))) (from !
-              (stop !)) (init ! 26 refl (tt, tt)) $
-              assigns ! (agg ! (and-then ! (load ! (from ! (stop !)) (look ! 26 refl)) (and-then ! (load ! (from !
-              (fld !
-              refl (stop !))) (look-in ! 33 (sub ! 1 refl (whole !)))) (no-more !)))) (from ! (stop !)) (init ! 27 refl
-              (tt, (tt, (record { fits = room₁ .0 }, tt)))) $
+              assigns ! (addr ! (from ! (fld ! refl (hop ! (look-in ! 33 (sub ! 0 refl (whole !))) (stop !)))))
+              (from ! (stop !)) (init ! 26 refl (tt, tt)) $
+              assigns ! (agg ! (and-then ! (load ! (from ! (stop !)) (look ! 26 refl)) (and-then ! (load !
+              (from ! (fld ! refl (stop !))) (look-in ! 33 (sub ! 1 refl (whole !)))) (no-more !)))) (from !
+              (stop !)) (init ! 27 refl (tt, (tt, (record { fits = room₁ .0 }, tt)))) $
               assigns ! (addr ! (from ! (stop !))) (from ! (stop !)) (init ! 28 refl (tt, tt)) $
-              assigns ! (agg ! (and-then ! (load ! (from ! (stop !)) (look ! 28 refl)) (and-then ! (lit ! tt) (no-more
-              !)))) (from ! (stop !)) (init ! 29 refl (tt, (tt, (record { fits = lit< tt }, tt)))) $
-              move ! (4 ∷ 5 ∷ 6 ∷ []) $ stores κ₁ q₁ γ₁ b₁ o₁ ts (length lent) (z .1 .from) (z .1 .entries) (z .0) l₆
-              𝓤 H A
-              mem run
-              W (named 1) same ! fm known-store room-ts (from-fits (z .1) w₃ (known .1 .1)) (entries-fit (z .1) w₃
-              (known
-              .1 .1))
-              (known .0) (store-asked plan count at ts ready r e f f-size g g-size (z .0) (z .1) (known .1 .0))
-              (λ _. (and-then ! (load ! (from ! (stop !)) (look ! 26 refl)) (and-then ! (load ! (from ! (fld ! refl
-              (stop
-              !))) (look-in ! 8 (sub ! 1 refl (whole !)))) (and-then ! (load ! (from ! (stop !)) (look ! 28 refl))
-              (and-then ! (load ! (from ! (fld ! refl (stop !))) (look-in ! 8 (sub ! 2 refl (whole !)))) (no-more
-              !))))))
-              (λ w₄ n₄ is₄. land ! (from ! (stop !)) (store ! 11 refl (uint-lawful 𝓤 H A W w64 .typed n₄ _ is₄ .0)) $
+              assigns ! (agg ! (and-then ! (load ! (from ! (stop !)) (look ! 28 refl)) (and-then ! (lit ! tt)
+              (no-more !)))) (from ! (stop !)) (init ! 29 refl (tt, (tt, (record { fits = lit< tt }, tt)))) $
+              move ! (4 ∷ 5 ∷ 6 ∷ []) $
+              stores κ₁ q₁ γ₁ b₁ o₁ ts (length lent) (z .1 .from) (z .1 .entries) (z .0) l₆ 𝓤 H A mem run W
+              (named 1) same ! fm known-store room-ts (from-fits (z .1) w₃ (known .1 .1)) (entries-fit
+              (z .1) w₃ (known .1 .1)) (known .0) (store-asked plan count at ts ready r e f f-size g g-size (z .0)
+              (z .1) (known .1 .0)) (λ _. (and-then ! (load ! (from ! (stop !)) (look ! 26 refl)) (and-then !
+              (load ! (from ! (fld ! refl (stop !))) (look-in ! 8 (sub ! 1 refl (whole !)))) (and-then ! (load !
+              (from ! (stop !)) (look ! 28 refl)) (and-then ! (load ! (from ! (fld ! refl (stop !))) (look-in ! 8
+              (sub ! 2 refl (whole !)))) (no-more !)))))) (λ w₄ n₄ is₄. land ! (from ! (stop !))
+              (store ! 11 refl (uint-lawful 𝓤 H A W w64 .typed n₄ _ is₄ .0)) $
               -- `following_of`
-              use0 W (raw (Following 𝓤 H A mem run .pre (to-following at (z .1 .held))))
-              (goes-following at (z .1 .held) at-is (held-fits (z .1) w₃ (known .1 .1)) asked) $
-              calls-at-last ! fm (Following 𝓤 H A mem run) known-following (to-following at (z .1 .held)) (and-then !
-              (load
-              ! (from ! (stop !)) (look ! 35 refl)) (and-then ! (load ! (from ! (fld ! refl (stop !))) (look-in ! 10
-              (sub !
-              0 refl (whole !)))) (no-more !))) (λ v.
-              use1 W (later (some (λ (next : Drive). (‵ ftrue ⊛ ‵ (D.the-row .own next (v ∷ []))) ⊛ raw (ensured 𝓤 H A
-              the-following.ended
-              (the-following.clauses 𝓤 H A mem run) tt (at, (z .1 .held, tt)) tt next)))) (id⊢ 𝓤 _) $ await ! tt $
-              pick !
-              (λ next.
-              split ! $ move ! (1 ∷ []) $ use1 W (raw (fact 𝓤 (next ≡ following at (z .1 .held))))
-              (following-told at (z .1 .held) next) $ heard ! (next ≡ following at (z .1 .held)) (λ en.
-              split ! $ move ! (1 ∷ []) $ peeks ! D.the-row (Is D.the-row) (shows 𝓤 H A D.the-row) next (v ∷ []) (λ
-              is-n.
-              land-last ! (from ! (stop !)) (store ! 36 refl (LL.lawful D.the-type D′.the-laws 𝓤 H A W .typed next _
-              is-n
-              .0)) $
-              rewrite ! 36 (λ (u : Val). ‵ (fat fullShare driveTy l₇ 0 u)) (ap only (LL.tells D.the-type D′.the-laws
-              next _
-              is-n)) refl $
+              use0 W (raw (Following 𝓤 H A mem run .pre (to-following at (z .1 .held)))) (goes-following at
+              (z .1 .held) at-is (held-fits (z .1) w₃ (known .1 .1)) asked) $
+              calls-at-last ! fm (Following 𝓤 H A mem run) known-following (to-following at (z .1 .held))
+              (and-then ! (load ! (from ! (stop !)) (look ! 35 refl)) (and-then ! (load ! (from ! (fld ! refl
+              (stop !))) (look-in ! 10 (sub ! 0 refl (whole !)))) (no-more !))) (λ v. use1 W (later (some (λ
+              (next : Drive). (‵ ftrue ⊛ ‵ (D.the-row .own next (v ∷ []))) ⊛ raw
+              (ensured 𝓤 H A the-following.ended (the-following.clauses 𝓤 H A mem run) tt (
+                at,
+                (z .1 .held, tt),
+              ) tt next)))) (id⊢ 𝓤 _) $ await ! tt $ pick ! (λ next. split ! $ move ! (1 ∷ []) $
+              use1 W (raw (fact 𝓤 (next ≡ following at (z .1 .held)))) (following-told at (z .1 .held) next) $
+              heard ! (next ≡ following at (z .1 .held)) (λ en. split ! $ move ! (1 ∷ []) $
+              peeks ! D.the-row (Is D.the-row) (shows 𝓤 H A D.the-row) next (v ∷ []) (λ is-n. land-last !
+              (from ! (stop !)) (store ! 36 refl (LL.lawful D.the-type D′.the-laws 𝓤 H A W .typed next _ is-n .0)) $
+              rewrite ! 36 (λ (u : Val). ‵ (fat fullShare driveTy l₇ 0 u)) (ap only
+              (LL.tells D.the-type D′.the-laws next _ is-n)) refl $
               keep ! (10 ∷ 11 ∷ 12 ∷ 13 ∷ 14 ∷ 15 ∷ 16 ∷ 17 ∷ 18 ∷ 19 ∷ 20 ∷ 21 ∷ 22 ∷ 23 ∷ 24 ∷ 25 ∷ 26 ∷ 27 ∷ 28 ∷
-              29 ∷
-              30 ∷ 31 ∷ 2 ∷ 6 ∷ 5 ∷ 3 ∷ 7 ∷ 8 ∷ 4 ∷ 32 ∷ 33 ∷ 34 ∷ 35 ∷ 36 ∷ 37 ∷ []) $ by ! (spent-all 𝓤 H A W Temps
-              (has
-              _ ∷ has _ ∷ has _ ∷ has _ ∷ has _ ∷ has _ ∷ has _ ∷ has _ ∷ has _ ∷ has _ ∷ has _ ∷ has _ ∷ has _ ∷ has
-              _ ∷
-              has _ ∷ has _ ∷ has _ ∷ has _ ∷ has _ ∷ has _ ∷ has _ ∷ has _ ∷ []) (Kept next (table-then z) (first r)
-              (second r) (z .0)) X
-              (then (next, (table-then z, (first r, (second r, z .0))))
-              ((driven z r (known .1 .0) e next en, drive-is next v is-n), (first-size r, (second-size r, known .0)))
-              (less z r (known .1 .0) e next en)))))))))))))))
+              29 ∷ 30 ∷ 31 ∷ 2 ∷ 6 ∷ 5 ∷ 3 ∷ 7 ∷ 8 ∷ 4 ∷ 32 ∷ 33 ∷ 34 ∷ 35 ∷ 36 ∷ 37 ∷ []) $
+              by ! (spent-all 𝓤 H A W Temps (has _ ∷ has _ ∷ has _ ∷ has _ ∷ has _ ∷ has _ ∷ has _ ∷ has _ ∷ has _ ∷
+              has _ ∷ has _ ∷ has _ ∷ has _ ∷ has _ ∷ has _ ∷ has _ ∷ has _ ∷ has _ ∷ has _ ∷ has _ ∷ has _ ∷ has _ ∷
+              []) (Kept next (table-then z) (first r) (second r) (z .0)) X (then (
+                next,
+                (
+                  table-then z,
+                  (first r, (second r, z .0)),
+                ),
+              ) (
+                (driven z r (known .1 .0) e next en, drive-is next v is-n),
+                (first-size r, (second-size r, known .0)),
+              ) (less z r (known .1 .0) e next en)))))))))))))))
 
       -- the turn that leaves the loop, and the rest of the body
       leaves : (at : Drive) (ts : List Entry) (f g m : List ℕ) (X : SProp 𝓤) → Good at ts f g m → at .going ≡ false
@@ -649,34 +622,32 @@ module _ {M : Type 1} (𝓤 : URA M) (H : Heap 𝓤) (A : Atoms 𝓤) (W : Given
       unfolding afterTurn
       leaves at ts f g m X good ended =
           qed W (At at ts f g m) ∵ exec ! C Λ En body.turn-1 (anyQ (afterTurn 𝓤 H X Left)) $
-          assigns ! (of-opd ! (load ! (from ! (fld ! refl (stop !))) (look-in ! 33 (sub ! 0 refl (whole !))))) (from !
-          (stop !)) (init ! 2 refl (tt, tt)) $
+          assigns ! (of-opd ! (load ! (from ! (fld ! refl (stop !))) (look-in ! 33 (sub ! 0 refl (whole !)))))
+          (from ! (stop !)) (init ! 2 refl (tt, tt)) $
           rewrite ! 2 (λ (t : Bool). ‵ (fat fullShare tyBool l₁₀ 0 (vbool t))) ended refl $
           leaves-loop ! (load ! (from ! (stop !)) (look ! 2 refl)) $ exec ! C Λ En body.t-6 (atRet En Post) $
           use0 W (raw (Finish 𝓤 H A mem run .pre (to-finish at))) (goes-finish at (good .0 .1) (good .0 .0 .some)) $
-          calls-at ! (fmOf 𝓤 H (W .laws) 𝓣) (Finish 𝓤 H A mem run) known-finish (to-finish at) (and-then ! (load !
-          (from ! (stop !)) (look ! 34 refl)) (no-more !)) (λ w.
-          use1 W (later (some (λ (r : Swept). (‵ ftrue ⊛ ‵ (E.the-row .own r (w ∷ []))) ⊛ raw
-          (ensured 𝓤 H A the-finish.ended (the-finish.clauses 𝓤 H A mem run) tt (at, tt) tt r)))) (id⊢ 𝓤 _) $
-          await ! tt $ pick ! (λ r.
-          split ! $ move ! (1 ∷ []) $ use1 W (raw (fact 𝓤 (r ≡ finished at))) (finish-told at r) $ heard !
-          (r ≡ finished at) (λ e. split ! $ move ! (1 ∷ []) $ peeks ! E.the-row (Is E.the-row)
-          (shows 𝓤 H A E.the-row) r (w ∷ []) (λ is-r.
-          land ! (from ! (stop !)) (init ! 31 refl (EL.lawful E.the-type E′.the-laws 𝓤 H A W tt .typed r _ is-r .0)) $
+          calls-at ! (fmOf 𝓤 H (W .laws) 𝓣) (Finish 𝓤 H A mem run) known-finish (to-finish at) (and-then !
+          (load ! (from ! (stop !)) (look ! 34 refl)) (no-more !)) (λ w. use1 W (later (some (λ (r : Swept).
+          (‵ ftrue ⊛ ‵ (E.the-row .own r (w ∷ []))) ⊛ raw (ensured 𝓤 H A the-finish.ended
+          (the-finish.clauses 𝓤 H A mem run) tt (at, tt) tt r)))) (id⊢ 𝓤 _) $ await ! tt $ pick ! (λ r. split ! $
+          move ! (1 ∷ []) $ use1 W (raw (fact 𝓤 (r ≡ finished at))) (finish-told at r) $
+          heard ! (r ≡ finished at) (λ e. split ! $ move ! (1 ∷ []) $
+          peeks ! E.the-row (Is E.the-row) (shows 𝓤 H A E.the-row) r (w ∷ []) (λ is-r. land ! (from ! (stop !))
+          (init ! 31 refl (EL.lawful E.the-type E′.the-laws 𝓤 H A W tt .typed r _ is-r .0)) $
           -- the rows are in their locals again
-          move ! (28 ∷ []) $ use1 W (some (λ (v : Val). ‵ (fat fullShare (arrayTy u64 size) l₄ 0 v)))
-          (array-in u64 𝓤 H A W (uint-vals w64) (uint-tells w64) f size l₄ (good .1 .0)) $ pick ! (λ v₄.
-          move ! (29 ∷ []) $ use1 W (some (λ (v : Val). ‵ (fat fullShare (arrayTy u64 size) l₅ 0 v)))
-          (array-in u64 𝓤 H A W (uint-vals w64) (uint-tells w64) g size l₅ (good .1 .1 .0)) $ pick ! (λ v₅.
-          move ! (30 ∷ []) $ use1 W (some (λ (v : Val). ‵ (fat fullShare (arrayTy u64 size) l₆ 0 v)))
-          (array-in u64 𝓤 H A W (uint-vals w64) (uint-tells w64) m size l₆ (good .1 .1 .1)) $ pick ! (λ v₆.
-          returns ! (look ! 31 refl) $
-          keep ! (31 ∷ 32 ∷ 33 ∷ 34 ∷ 2 ∷ 1 ∷ 0 ∷ 35 ∷ 5 ∷ 6 ∷ 7 ∷ 8 ∷ 9 ∷ 10 ∷ 11 ∷ 12 ∷ 13 ∷ 14 ∷ 15 ∷ 16 ∷ 17 ∷ 18 ∷
-          19 ∷ 20 ∷ 21 ∷ 22 ∷ 23 ∷ 24 ∷ 25 ∷ 26 ∷ 36 ∷ 29 ∷ 30 ∷ 28 ∷ 27 ∷ []) $ by ! (free-all 𝓤 H A W En (has _ ∷ has
-          _ ∷ has _ ∷ has _ ∷ has _ ∷ has _ ∷ has _ ∷ has _ ∷ none ∷ none ∷ has _ ∷ none ∷ none ∷ none ∷ none ∷ none ∷
-          none ∷ none ∷ none ∷ none ∷ none ∷ none ∷ none ∷ none ∷ none ∷ none ∷ none ∷ none ∷ none ∷ none ∷ []) (Had
-          ts) (Post w)
-          (exits ts r w (good .0 .0 .same) (owed r e) is-r)))))))))
+          move ! (28 ∷ []) $
+          use1 W (some (λ (v : Val). ‵ (fat fullShare (arrayTy u64 size) l₄ 0 v))) (array-in u64 𝓤 H A W
+          (uint-vals w64) (uint-tells w64) f size l₄ (good .1 .0)) $ pick ! (λ v₄. move ! (29 ∷ []) $
+          use1 W (some (λ (v : Val). ‵ (fat fullShare (arrayTy u64 size) l₅ 0 v))) (array-in u64 𝓤 H A W
+          (uint-vals w64) (uint-tells w64) g size l₅ (good .1 .1 .0)) $ pick ! (λ v₅. move ! (30 ∷ []) $
+          use1 W (some (λ (v : Val). ‵ (fat fullShare (arrayTy u64 size) l₆ 0 v))) (array-in u64 𝓤 H A W
+          (uint-vals w64) (uint-tells w64) m size l₆ (good .1 .1 .1)) $ pick ! (λ v₆. returns ! (look ! 31 refl) $
+          keep ! (31 ∷ 32 ∷ 33 ∷ 34 ∷ 2 ∷ 1 ∷ 0 ∷ 35 ∷ 5 ∷ 6 ∷ 7 ∷ 8 ∷ 9 ∷ 10 ∷ 11 ∷ 12 ∷ 13 ∷ 14 ∷ 15 ∷ 16 ∷ 17 ∷ 18
+          ∷ 19 ∷ 20 ∷ 21 ∷ 22 ∷ 23 ∷ 24 ∷ 25 ∷ 26 ∷ 36 ∷ 29 ∷ 30 ∷ 28 ∷ 27 ∷ []) $
+          by ! (free-all 𝓤 H A W En (has _ ∷ has _ ∷ has _ ∷ has _ ∷ has _ ∷ has _ ∷ has _ ∷ has _ ∷ none ∷ none ∷ has
+          _ ∷ none ∷ none ∷ none ∷ none ∷ none ∷ none ∷ none ∷ none ∷ none ∷ none ∷ none ∷ none ∷ none ∷ none ∷ none ∷
+          none ∷ none ∷ none ∷ none ∷ []) (Had ts) (Post w) (exits ts r w (good .0 .0 .same) (owed r e) is-r)))))))))
         where
           owed : (r : Swept) → r ≡ finished at → Owed ts r
           owed r e = subst (Owed ts) (sym e) (good .0 .0 .ended ended, λ z. good .0 .0 .none z .1)
@@ -714,69 +685,71 @@ module _ {M : Type 1} (𝓤 : URA M) (H : Heap 𝓤) (A : Atoms 𝓤) (W : Given
     walk : ent 𝓤 (onEntry 𝓤 H A the-rows.signature (κ₀, (κ₁, tt)) (q₀, (q₁, tt)) a vals)
         (WpFn 𝓤 H C Λ code.function (s₀ ∷ vint w64 count ∷ s₁ ∷ []) Post)
     walk =
-        qed W ((‵ (flft κ₀ q₀) ⊛ ‵ (flft κ₁ q₁) ⊛ ‵ ftrue) ∷ ‵
-        (owns (ShrSlice (named 0) κ₀ u64 ∷ usize ∷ MutSlice (named 1) κ₁ R ∷ []) a vals)
-        ∷ []) ∵ enter ! C Λ code.function (s₀ ∷ vint w64 count ∷ s₁ ∷ []) _ $ allocs-all ! (λ ls. params1 ! $
-        pass1 ! (init ! 1 refl (tt, (tt, (record { fits = room₀ .0 }, tt)))) $ pass1 ! (init ! 2 refl (
-          tt,
-          record {
-            fits = count-fits;
-          },
-        )) $ pass1 ! (init ! 3 refl (tt, (tt, (record { fits = room₁ .0 }, tt)))) $ pass0 ! $
-        move ! (31 ∷ []) $ split ! $
-        move ! (1 ∷ []) $ split ! $
-        move ! (34 ∷ []) $ fsplit ! $
-        move ! (1 ∷ []) $ fsplit ! $ drop ! $ fsplit ! $
+        qed W ((‵ (flft κ₀ q₀) ⊛ ‵ (flft κ₁ q₁) ⊛ ‵ ftrue) ∷ ‵ (owns (ShrSlice
+        (named 0) κ₀ u64 ∷ usize ∷ MutSlice (named 1) κ₁ R ∷ []) a vals) ∷ []) ∵ enter ! C Λ code.function
+        (s₀ ∷ vint w64 count ∷ s₁ ∷ []) _ $ allocs-all ! (λ ls. params1 ! $
+        pass1 ! (init ! 1 refl (tt, (tt, (record { fits = room₀ .0 }, tt)))) $
+        pass1 ! (init ! 2 refl (tt, record { fits = count-fits })) $
+        pass1 ! (init ! 3 refl (tt, (tt, (record { fits = room₁ .0 }, tt)))) $ pass0 ! $ move ! (31 ∷ []) $ split ! $
+        move ! (1 ∷ []) $ split ! $ move ! (34 ∷ []) $ fsplit ! $ move ! (1 ∷ []) $ fsplit ! $ drop ! $ fsplit ! $
         -- the rows, each all zero, under a name
-        assigns ! (rep ! size (lit ! tt)) (from ! (stop !)) (init ! 10 refl (repeated-typed u64 0 (vint w64 0) zero-is
-        𝓤 H A W (uint-lawful 𝓤 H A W w64) size)) $
-        move ! (10 ∷ []) $ use1 W (some (λ (xs : List ℕ). given (xs ≡ replicate size 0) (‵ (Words xs (ls .1 .1 .1 .1
-        .0)))))
-        (repeated-out u64 0 (vint w64 0) zero-is 𝓤 H A W tt (uint-makes 𝓤 H A W w64) size (ls .1 .1 .1 .1 .0)) $ pick !
-        (λ f. learn ! (λ f-is.
-        assigns ! (rep ! size (lit ! tt)) (from ! (stop !)) (init ! 11 refl (repeated-typed u64 0 (vint w64 0) zero-is
-        𝓤 H A W (uint-lawful 𝓤 H A W w64) size)) $
-        move ! (11 ∷ []) $ use1 W (some (λ (xs : List ℕ). given (xs ≡ replicate size 0) (‵ (Words xs (ls .1 .1 .1 .1 .1
-        .0)))))
-        (repeated-out u64 0 (vint w64 0) zero-is 𝓤 H A W tt (uint-makes 𝓤 H A W w64) size (ls .1 .1 .1 .1 .1 .0)) $
-        pick ! (λ g. learn ! (λ g-is.
-        assigns ! (rep ! size (lit ! tt)) (from ! (stop !)) (init ! 12 refl (repeated-typed u64 0 (vint w64 0) zero-is
-        𝓤 H A W (uint-lawful 𝓤 H A W w64) size)) $
-        move ! (12 ∷ []) $ use1 W (some (λ (xs : List ℕ). given (xs ≡ replicate size 0) (‵ (Words xs (ls .1 .1 .1 .1 .1
-        .1 .0)))))
-        (repeated-out u64 0 (vint w64 0) zero-is 𝓤 H A W tt (uint-makes 𝓤 H A W w64) size (ls .1 .1 .1 .1 .1 .1 .0)) $
-        pick ! (λ m. learn ! (λ m-is.
+        assigns ! (rep ! size (lit ! tt)) (from ! (stop !)) (init ! 10 refl (repeated-typed u64 0
+        (vint w64 0) zero-is 𝓤 H A W (uint-lawful 𝓤 H A W w64) size)) $ move ! (10 ∷ []) $
+        use1 W (some (λ (xs : List ℕ). given (xs ≡ replicate size 0) (‵ (Words xs
+        (ls .1 .1 .1 .1 .0))))) (repeated-out u64 0 (vint w64 0) zero-is 𝓤 H A W tt (uint-makes 𝓤 H A W w64) size
+        (ls .1 .1 .1 .1 .0)) $
+        pick ! (λ f. learn ! (λ f-is. assigns ! (rep ! size (lit ! tt)) (from ! (stop !))
+        (init ! 11 refl (repeated-typed u64 0 (vint w64 0) zero-is 𝓤 H A W (uint-lawful 𝓤 H A W w64) size)) $
+        move ! (11 ∷ []) $
+        use1 W (some (λ (xs : List ℕ). given (xs ≡ replicate size 0) (‵ (Words xs
+        (ls .1 .1 .1 .1 .1 .0))))) (repeated-out u64 0 (vint w64 0) zero-is 𝓤 H A W tt
+        (uint-makes 𝓤 H A W w64) size (ls .1 .1 .1 .1 .1 .0)) $
+        pick ! (λ g. learn ! (λ g-is. assigns ! (rep ! size (lit ! tt)) (from ! (stop !))
+        (init ! 12 refl (repeated-typed u64 0 (vint w64 0) zero-is 𝓤 H A W (uint-lawful 𝓤 H A W w64) size)) $
+        move ! (12 ∷ []) $
+        use1 W (some (λ (xs : List ℕ). given (xs ≡ replicate size 0) (‵ (Words xs
+        (ls .1 .1 .1 .1 .1 .1 .0))))) (repeated-out u64 0 (vint w64 0) zero-is 𝓤 H A W tt
+        (uint-makes 𝓤 H A W w64) size (ls .1 .1 .1 .1 .1 .1 .0)) $ pick ! (λ m. learn ! (λ m-is.
         -- `start`, with a copy of what the plan owns
         move ! (5 ∷ []) $ use1 W (‵ Own₀ ⊛ ‵ Own₀) (shr-slice-copy 𝓤 H A W (named 0) κ₀ u64 .twice x₀ (s₀ ∷ [])) $
-        split ! $
-        move ! (9 ∷ 0 ∷ []) $ use2 W (raw (Start 𝓤 H A mem run .pre to-start)) goes-start $
-        calls-at ! (fmOf 𝓤 H (W .laws) 𝓣) (Start 𝓤 H A mem run) known-start to-start (and-then ! (load ! (from ! (stop
-        !)) (look ! 10 refl)) (and-then ! (load ! (from ! (stop !)) (look ! 11 refl)) (no-more !))) (λ w.
-        use1 W (later (some (λ (r : Drive). ((‵ (flft κ₀ q₀) ⊛ ‵ ftrue) ⊛ ‵ (D.the-row .own r (w ∷ []))) ⊛ raw
-        (ensured 𝓤 H A the-start.ended (the-start.clauses 𝓤 H A mem run) (κ₀, tt) (x₀, (count, tt)) tt r))))
-        (id⊢ 𝓤 _) $ await ! tt $ pick ! (λ r.
-        split ! $ move ! (1 ∷ []) $ use1 W (raw (fact 𝓤 (Told r))) (start-told r) $ heard ! (Told r)
-        (λ e. split ! $ move ! (1 ∷ []) $ peeks ! D.the-row (Is D.the-row) (shows 𝓤 H A D.the-row) r (w ∷ [])
-        (λ is-r.
-        land ! (from ! (stop !)) (init ! 14 refl (LL.lawful D.the-type D′.the-laws 𝓤 H A W .typed r _ is-r .0)) $
-        rewrite ! 14 (λ (u : Val). ‵ (fat fullShare driveTy (ls .1 .1 .1 .1 .1 .1 .1 .0) 0 u)) (ap only (LL.tells
-        D.the-type D′.the-laws r _ is-r)) refl $ drop ! $ split ! $
+        split ! $ move ! (9 ∷ 0 ∷ []) $ use2 W (raw (Start 𝓤 H A mem run .pre to-start)) goes-start $
+        calls-at ! (fmOf 𝓤 H (W .laws) 𝓣) (Start 𝓤 H A mem run) known-start to-start (and-then ! (load ! (from !
+        (stop !)) (look ! 10 refl)) (and-then ! (load ! (from ! (stop !)) (look ! 11 refl)) (no-more !)))
+        (λ w. use1 W (later (some (λ (r : Drive). ((‵ (flft κ₀ q₀) ⊛ ‵ ftrue) ⊛ ‵ (D.the-row .own r
+        (w ∷ []))) ⊛ raw (ensured 𝓤 H A the-start.ended (the-start.clauses 𝓤 H A mem run) (κ₀, tt) (
+          x₀,
+          (count, tt),
+        ) tt r)))) (id⊢ 𝓤 _) $ await ! tt $ pick ! (λ r. split ! $ move ! (1 ∷ []) $
+        use1 W (raw (fact 𝓤 (Told r))) (start-told r) $ heard ! (Told r) (λ e. split ! $ move ! (1 ∷ []) $
+        peeks ! D.the-row (Is D.the-row) (shows 𝓤 H A D.the-row) r (w ∷ []) (λ is-r. land ! (from ! (stop !))
+        (init ! 14 refl (LL.lawful D.the-type D′.the-laws 𝓤 H A W .typed r _ is-r .0)) $
+        rewrite ! 14 (λ (u : Val). ‵ (fat fullShare driveTy (ls .1 .1 .1 .1 .1 .1 .1 .0) 0 u)) (ap only
+        (LL.tells D.the-type D′.the-laws r _ is-r)) refl $ drop ! $ split ! $
         keep ! (15 ∷ 16 ∷ 17 ∷ 18 ∷ 19 ∷ 20 ∷ 21 ∷ 22 ∷ 23 ∷ 24 ∷ 25 ∷ 26 ∷ 27 ∷ 28 ∷ 29 ∷ 30 ∷ 31 ∷ 32 ∷ 33 ∷ 34 ∷ 35
-        ∷ 36 ∷ 6 ∷ 2 ∷ 0 ∷ 8 ∷ 5 ∷ 4 ∷ 3 ∷ 10 ∷ 11 ∷ 12 ∷ 13 ∷ 14 ∷ 37 ∷ []) $ by ! (loops (e .1) (ls .0) (ls .1 .0)
-        (ls .1 .1 .0) (ls .1 .1 .1 .0) (ls .1 .1 .1 .1 .0) (ls .1 .1 .1 .1 .1 .0) (ls .1 .1 .1 .1 .1 .1 .0) (ls .1 .1
-        .1 .1 .1 .1 .1 .0) (ls .1 .1 .1 .1 .1 .1 .1 .1 .0) (ls .1 .1 .1 .1 .1 .1 .1 .1 .1 .0) (ls .1 .1 .1 .1 .1 .1 .1
-        .1 .1 .1 .0) (ls .1 .1 .1 .1 .1 .1 .1 .1 .1 .1 .1 .0) (ls .1 .1 .1 .1 .1 .1 .1 .1 .1 .1 .1 .1 .0) (ls .1 .1 .1
-        .1 .1 .1 .1 .1 .1 .1 .1 .1 .1 .0) (ls .1 .1 .1 .1 .1 .1 .1 .1 .1 .1 .1 .1 .1 .1 .0) (ls .1 .1 .1 .1 .1 .1 .1 .1
-        .1 .1 .1 .1 .1 .1 .1 .0) (ls .1 .1 .1 .1 .1 .1 .1 .1 .1 .1 .1 .1 .1 .1 .1 .1 .0) (ls .1 .1 .1 .1 .1 .1 .1 .1 .1
-        .1 .1 .1 .1 .1 .1 .1 .1 .0) (ls .1 .1 .1 .1 .1 .1 .1 .1 .1 .1 .1 .1 .1 .1 .1 .1 .1 .1 .0) (ls .1 .1 .1 .1 .1 .1
-        .1 .1 .1 .1 .1 .1 .1 .1 .1 .1 .1 .1 .1 .0) (ls .1 .1 .1 .1 .1 .1 .1 .1 .1 .1 .1 .1 .1 .1 .1 .1 .1 .1 .1 .1 .0)
-        (ls .1 .1 .1 .1 .1 .1 .1 .1 .1 .1 .1 .1 .1 .1 .1 .1 .1 .1 .1 .1 .1 .0) (ls .1 .1 .1 .1 .1 .1 .1 .1 .1 .1 .1 .1
-        .1 .1 .1 .1 .1 .1 .1 .1 .1 .1 .0) (ls .1 .1 .1 .1 .1 .1 .1 .1 .1 .1 .1 .1 .1 .1 .1 .1 .1 .1 .1 .1 .1 .1 .1 .0)
-        (ls .1 .1 .1 .1 .1 .1 .1 .1 .1 .1 .1 .1 .1 .1 .1 .1 .1 .1 .1 .1 .1 .1 .1 .1 .0) (ls .1 .1 .1 .1 .1 .1 .1 .1 .1
-        .1 .1 .1 .1 .1 .1 .1 .1 .1 .1 .1 .1 .1 .1 .1 .1 .0) (ls .1 .1 .1 .1 .1 .1 .1 .1 .1 .1 .1 .1 .1 .1 .1 .1 .1 .1
-        .1 .1 .1 .1 .1 .1 .1 .1 .0) (ls .1 .1 .1 .1 .1 .1 .1 .1 .1 .1 .1 .1 .1 .1 .1 .1 .1 .1 .1 .1 .1 .1 .1 .1 .1 .1
-        .1 .0) (ls .1 .1 .1 .1 .1 .1 .1 .1 .1 .1 .1 .1 .1 .1 .1 .1 .1 .1 .1 .1 .1 .1 .1 .1 .1 .1 .1 .1 .0) (ls .1 .1 .1
-        .1 .1 .1 .1 .1 .1 .1 .1 .1 .1 .1 .1 .1 .1 .1 .1 .1 .1 .1 .1 .1 .1 .1 .1 .1 .1 .0) (r, (lent, (f, (g, m)))) (
+        ∷ 36 ∷ 6 ∷ 2 ∷ 0 ∷ 8 ∷ 5 ∷ 4 ∷ 3 ∷ 10 ∷ 11 ∷ 12 ∷ 13 ∷ 14 ∷ 37 ∷ []) $
+        by ! (loops (e .1) (ls .0) (ls .1 .0) (ls .1 .1 .0) (ls .1 .1 .1 .0) (ls .1 .1 .1 .1 .0)
+        (ls .1 .1 .1 .1 .1 .0) (ls .1 .1 .1 .1 .1 .1 .0) (ls .1 .1 .1 .1 .1 .1 .1 .0)
+        (ls .1 .1 .1 .1 .1 .1 .1 .1 .0) (ls .1 .1 .1 .1 .1 .1 .1 .1 .1 .0) (ls .1 .1 .1 .1 .1 .1 .1 .1 .1 .1 .0)
+        (ls .1 .1 .1 .1 .1 .1 .1 .1 .1 .1 .1 .0) (ls .1 .1 .1 .1 .1 .1 .1 .1 .1 .1 .1 .1 .0)
+        (ls .1 .1 .1 .1 .1 .1 .1 .1 .1 .1 .1 .1 .1 .0) (ls .1 .1 .1 .1 .1 .1 .1 .1 .1 .1 .1 .1 .1 .1 .0)
+        (ls .1 .1 .1 .1 .1 .1 .1 .1 .1 .1 .1 .1 .1 .1 .1 .0) (ls .1 .1 .1 .1 .1 .1 .1 .1 .1 .1 .1 .1 .1 .1 .1 .1 .0)
+        (ls .1 .1 .1 .1 .1 .1 .1 .1 .1 .1 .1 .1 .1 .1 .1 .1 .1 .0) (ls .1 .1 .1 .1 .1 .1 .1 .1 .1 .1 .1 .1 .1 .1 .1 .1
+        .1 .1 .0) (ls .1 .1 .1 .1 .1 .1 .1 .1 .1 .1 .1 .1 .1 .1 .1 .1 .1 .1 .1 .0)
+        (ls .1 .1 .1 .1 .1 .1 .1 .1 .1 .1 .1 .1 .1 .1 .1 .1 .1 .1 .1 .1 .0) (ls .1 .1 .1 .1 .1 .1 .1 .1 .1 .1 .1 .1 .1
+        .1 .1 .1 .1 .1 .1 .1 .1 .0) (ls .1 .1 .1 .1 .1 .1 .1 .1 .1 .1 .1 .1 .1 .1 .1 .1 .1 .1 .1 .1 .1 .1 .0)
+        (ls .1 .1 .1 .1 .1 .1 .1 .1 .1 .1 .1 .1 .1 .1 .1 .1 .1 .1 .1 .1 .1 .1 .1 .0)
+        (ls .1 .1 .1 .1 .1 .1 .1 .1 .1 .1 .1 .1 .1 .1 .1 .1 .1 .1 .1 .1 .1 .1 .1 .1 .0)
+        (ls .1 .1 .1 .1 .1 .1 .1 .1 .1 .1 .1 .1 .1 .1 .1 .1 .1 .1 .1 .1 .1 .1 .1 .1 .1 .0)
+        (ls .1 .1 .1 .1 .1 .1 .1 .1 .1 .1 .1 .1 .1 .1 .1 .1 .1 .1 .1 .1 .1 .1 .1 .1 .1 .1 .0)
+        (ls .1 .1 .1 .1 .1 .1 .1 .1 .1 .1 .1 .1 .1 .1 .1 .1 .1 .1 .1 .1 .1 .1 .1 .1 .1 .1 .1 .0)
+        (ls .1 .1 .1 .1 .1 .1 .1 .1 .1 .1 .1 .1 .1 .1 .1 .1 .1 .1 .1 .1 .1 .1 .1 .1 .1 .1 .1 .1 .0)
+        (ls .1 .1 .1 .1 .1 .1 .1 .1 .1 .1 .1 .1 .1 .1 .1 .1 .1 .1 .1 .1 .1 .1 .1 .1 .1 .1 .1 .1 .1 .0) (
+          r,
+          (
+            lent,
+            (f, (g, m)),
+          ),
+        ) (
           (
             subst (λ (y : Drive). Driven plan count lent y lent) (sym (e .0))
                 (driven-start plan count lent (e .1) of enough),
