@@ -5,7 +5,7 @@ ghost use mathlib.Core.Bool.{_&&_, _||_, not};
 ghost use Prim.Native.Nat.{ℕ, _<_};
 ghost use lib.Count.{trailingZeros};
 ghost use lib.Dec.{eqb};
-ghost use Rattle.laws.specs.Terms.{bit};
+ghost use Rattle.laws.specs.Terms.{digit, bit};
 ghost use Rattle.words.specs.Tabled.{least};
 
 // Whether k is in x.
@@ -15,20 +15,20 @@ pub fn has(x: u64, k: usize) -> bool
     if k < 64 { (x >> k) % 2 == 1 } else { false }
 }
 
-// x with k.
-fn with(x: u64, k: usize) -> u64
-    requires { ⌜ k < 64 ⌝ }
-    ensures { λ r. ⌜ ((j : ℕ) → bit r j ≡ bit x j || eqb j k) ⌝ }
+// 1 where the test holds, else 0.
+fn digit_of(test: bool) -> u64
+    ensures { λ r. ⌜ r ≡ digit test ⌝ }
 {
-    x | (1 << k)
+    if test { 1 } else { 0 }
 }
 
-// x, with k where the test holds.
+// x, with k where the test holds. The test's digit is shifted, and no word is chosen by it: the compiler would choose
+// once for each part of a test.
 pub fn put(x: u64, k: usize, test: bool) -> u64
     requires { ⌜ k < 64 ⌝ }
     ensures { λ r. ⌜ ((j : ℕ) → bit r j ≡ bit x j || (test && eqb j k)) ⌝ }
 {
-    if test { with(x, k) } else { x }
+    x | (digit_of(test) << k)
 }
 
 // x where the test holds, else nothing.
