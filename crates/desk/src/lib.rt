@@ -38,7 +38,8 @@ pub extern "C" fn somniaret_verdict(bytes: &[u8]) -> FormAnswer
 // A form read and its body written back: the bytes written as the place, or the reader's or the writer's refusal.
 #[no_mangle]
 pub extern "C" fn somniaret_rewrite(bytes: &[u8], out: &mut [u8]) -> FormAnswer
-    ensures { λ r. ⌜ (r ≡ rewriteAnswer (now (bytes .entry)) (length (now (out .entry)))) × (now (out .exit) ≡ rewriteHeld (now (bytes .entry)) (now (out .entry))) ⌝ }
+    ensures { λ r. ⌜ (r ≡ rewriteAnswer (now (bytes .entry)) (length (now (out .entry)))) ×
+        (now (out .exit) ≡ rewriteHeld (now (bytes .entry)) (now (out .entry))) ⌝ }
 {
     let reading = reader::read(bytes);
     let verdict = reading.verdict;
@@ -64,7 +65,9 @@ pub extern "C" fn somniaret_pair(relation1: u8, constant1: i32, relation2: u8, c
 // The conflict list of a form, 5 bytes an entry, in the lent bytes; or a refusal, which changes none.
 #[no_mangle]
 pub extern "C" fn somniaret_conflicts(bytes: &[u8], out: &mut [u8]) -> ListNumbers
-    ensures { λ r. ⌜ (r ≡ listNumbers (listing (now (bytes .entry)) (length (now (out .entry))))) × (now (out .exit) ≡ heldAfter (listing (now (bytes .entry)) (length (now (out .entry)))) (conflictBytes (bodyOf (now (bytes .entry)))) (now (out .entry))) ⌝ }
+    ensures { λ r. ⌜ (r ≡ listNumbers (listing (now (bytes .entry)) (length (now (out .entry))))) ×
+        (now (out .exit) ≡ heldAfter (listing (now (bytes .entry)) (length (now (out .entry))))
+        (conflictBytes (bodyOf (now (bytes .entry)))) (now (out .entry))) ⌝ }
 {
     numbers::of_listed(listing::conflicts(bytes, out))
 }
@@ -86,7 +89,8 @@ pub extern "C" fn somniaret_sweep_table(
     table: &mut [Entry],
     route: &mut [u8],
 ) -> SweepNumbers
-    ensures { λ r. ⌜ SweepOwed (now (bytes .entry)) (now (route .entry)) (now (table .entry)) (sweptOutcome r (now (route .exit)) (now (table .exit))) ⌝ }
+    ensures { λ r. ⌜ SweepOwed (now (bytes .entry)) (now (route .entry)) (now (table .entry))
+        (sweptOutcome r (now (route .exit)) (now (table .exit))) ⌝ }
 {
     let answer = sweep::sweep(bytes, table, route);
     numbers::of_sweep(answer)

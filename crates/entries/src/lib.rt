@@ -75,7 +75,8 @@ fn before(jumps: u64, falls: u64, jumps2: u64, falls2: u64) -> bool
 // Whether the first tail is better: heavier, or as heavy and first. The lowest block in which their 'left by jump' sets
 // differ tells which is first.
 fn better(one: Way, other: Way) -> bool
-    ensures { λ r. ⌜ r ≡ next (heavier (one .weight) (other .weight)) (heavier (other .weight) (one .weight)) (earlier 64 (one .jumped) (other .jumped)) ⌝ }
+    ensures { λ r. ⌜ r ≡ next (heavier (one .weight) (other .weight)) (heavier (other .weight) (one .weight))
+        (earlier 64 (one .jumped) (other .jumped)) ⌝ }
 {
     if other.weight < one.weight {
         return true;
@@ -108,7 +109,8 @@ fn place_of(row: &[u64], held: usize, jumps: u64, falls: u64) -> usize
 // Whether the key is held at the place.
 fn is_held(row: &[u64], held: usize, p: usize, jumps: u64, falls: u64) -> bool
     requires { ⌜ 5 * held ≤ length (now row) ⌝ }
-    ensures { λ r. ⌜ r ≡ ltb p held && (eqb (entryAt (now (row .entry)) p .0 .0) jumps && eqb (entryAt (now (row .entry)) p .0 .1) falls) ⌝ }
+    ensures { λ r. ⌜ r ≡ ltb p held &&
+        (eqb (entryAt (now (row .entry)) p .0 .0) jumps && eqb (entryAt (now (row .entry)) p .0 .1) falls) ⌝ }
 {
     if p < held {
         let e = entry_at(row, p);
@@ -133,7 +135,8 @@ fn open_gap(row: &mut [u64], from: usize, to: usize)
 // The better of this entry and the one at the place.
 fn keep_better(row: &mut [u64], p: usize, e: Entry)
     requires { ⌜ 5 * suc p ≤ length (now row) ⌝ }
-    ensures { λ r. ⌜ now (row .exit) ≡ cond (betterOf (tupleOf e .1) (entryAt (now (row .entry)) p .1)) (entryPut (now (row .entry)) p (tupleOf e)) (now (row .entry)) ⌝ }
+    ensures { λ r. ⌜ now (row .exit) ≡ cond (betterOf (tupleOf e .1) (entryAt (now (row .entry)) p .1))
+        (entryPut (now (row .entry)) p (tupleOf e)) (now (row .entry)) ⌝ }
 {
     let held = entry_at(row, p);
     if better(e.way, held.way) {
@@ -154,7 +157,8 @@ fn squeeze_in(row: &mut [u64], held: usize, p: usize, e: Entry)
 // counted, and not put in.
 pub fn insert(row: &mut [u64], held: usize, e: Entry) -> usize
     requires { ⌜ (length (now row) ≡ 320) × (held ≤ 64) ⌝ }
-    ensures { λ r. ⌜ Grown (inserted (tupleOf e) (entriesFrom (now (row .entry)) 0 held)) (now (row .entry)) (now (row .exit)) r ⌝ }
+    ensures { λ r. ⌜ Grown (inserted (tupleOf e) (entriesFrom (now (row .entry)) 0 held)) (now (row .entry))
+        (now (row .exit)) r ⌝ }
 {
     let p = place_of(row, held, e.jumps, e.falls);
     if is_held(row, held, p, e.jumps, e.falls) {

@@ -19,7 +19,8 @@ fn entry(
     second: usize,
     outcome: u8,
 ) -> usize
-    requires { ⌜ ((first < 256) × (second < 256)) × (at + length (entryBytes on kind first third second outcome) ≤ length (now out)) ⌝ }
+    requires { ⌜ ((first < 256) × (second < 256)) ×
+        (at + length (entryBytes on kind first third second outcome) ≤ length (now out)) ⌝ }
     ensures { λ r. ⌜ Adds (now (out .entry)) at (now (out .exit)) r (entryBytes on kind first third second outcome) ⌝ }
 {
     if !on {
@@ -45,8 +46,10 @@ fn entries(
     second: usize,
     outcome: u8,
 ) -> usize
-    requires { ⌜ (second < 256) × (start + length (wordBytes kind word third other another second outcome) ≤ length (now out)) ⌝ }
-    ensures { λ r. ⌜ Adds (now (out .entry)) start (now (out .exit)) r (wordBytes kind word third other another second outcome) ⌝ }
+    requires { ⌜ (second < 256) ×
+        (start + length (wordBytes kind word third other another second outcome) ≤ length (now out)) ⌝ }
+    ensures { λ r. ⌜ Adds (now (out .entry)) start (now (out .exit)) r
+        (wordBytes kind word third other another second outcome) ⌝ }
 {
     let mut at = start;
     let mut f = 0;
@@ -71,8 +74,10 @@ fn edge_entries(
     second: usize,
     outcome: u8,
 ) -> usize
-    requires { ⌜ (second < 256) × (at + length (edgeBytes assigned jump fall variable second outcome) ≤ length (now out)) ⌝ }
-    ensures { λ r. ⌜ Adds (now (out .entry)) at (now (out .exit)) r (edgeBytes assigned jump fall variable second outcome) ⌝ }
+    requires { ⌜ (second < 256) ×
+        (at + length (edgeBytes assigned jump fall variable second outcome) ≤ length (now out)) ⌝ }
+    ensures { λ r. ⌜ Adds (now (out .entry)) at (now (out .exit)) r
+        (edgeBytes assigned jump fall variable second outcome) ⌝ }
 {
     let next = entries(out, at, 1, assigned, variable, 0, 0, second, outcome);
     entries(out, next, 2, jump, 1, fall, 2, second, outcome)
@@ -109,8 +114,12 @@ fn all_entries(
     j2: &[u64],
     f2: &[u64],
 ) -> usize
-    requires { ⌜ Rows (now variable) (now a1) (now j1) (now f1) (now a2) (now j2) (now f2) × (0 + length (allBytes (now variable) (now a1) (now j1) (now f1) (now a2) (now j2) (now f2)) ≤ length (now out)) ⌝ }
-    ensures { λ r. ⌜ Adds (now (out .entry)) 0 (now (out .exit)) r (allBytes (now (variable .entry)) (now (a1 .entry)) (now (j1 .entry)) (now (f1 .entry)) (now (a2 .entry)) (now (j2 .entry)) (now (f2 .entry))) ⌝ }
+    requires { ⌜ Rows (now variable) (now a1) (now j1) (now f1) (now a2) (now j2) (now f2) ×
+        (0 + length (allBytes (now variable) (now a1) (now j1) (now f1) (now a2) (now j2) (now f2)) ≤ length
+        (now out)) ⌝ }
+    ensures { λ r. ⌜ Adds (now (out .entry)) 0 (now (out .exit)) r
+        (allBytes (now (variable .entry)) (now (a1 .entry)) (now (j1 .entry)) (now (f1 .entry)) (now (a2 .entry))
+        (now (j2 .entry)) (now (f2 .entry))) ⌝ }
 {
     let mut at = 0;
     let mut s = 0;

@@ -13,7 +13,8 @@ pub enum Listed {
 
 fn list_of(body: form::Body, out: &mut [u8]) -> Listed
     requires { ⌜ Sound body ⌝ }
-    ensures { λ r. ⌜ (r ≡ listedIn body (length (now (out .entry)))) × (now (out .exit) ≡ heldAfter r (conflictBytes body) (now (out .entry))) ⌝ }
+    ensures { λ r. ⌜ (r ≡ listedIn body (length (now (out .entry)))) ×
+        (now (out .exit) ≡ heldAfter r (conflictBytes body) (now (out .entry))) ⌝ }
 {
     let local = local_sets::local_of(body);
     let f = path_sets::find(local);

@@ -155,7 +155,9 @@ fn tests_by_variable(tests: u64, variable: &[u8]) -> [u64; 256]
 // Those of the set whose relation to their constant no whole number has together with the relation to the constant.
 fn opposed(set: u64, relations: &[u8], constants: &[i32], relation: u8, constant: i32) -> u64
     requires { ⌜ (length (now relations) ≡ 64) × (length (now constants) ≡ 64) ⌝ }
-    ensures { λ r. ⌜ ((j : ℕ) → bit r j ≡ bit set j && not (shares relation constant (getD (now (relations .entry)) j 0) (getD (now (constants .entry)) j (pos 0)))) ⌝ }
+    ensures { λ r. ⌜ ((j : ℕ) → bit r j ≡ bit set j &&
+        not (shares relation constant (getD (now (relations .entry)) j 0)
+        (getD (now (constants .entry)) j (pos 0)))) ⌝ }
 {
     let mut r = 0;
     let mut left = set;
@@ -177,8 +179,10 @@ fn marks_of(
     fall: &[u8],
     constant: &[i32],
 ) -> Marks
-    requires { ⌜ (length (now groups) ≡ 256) × ((length (now jump) ≡ 64) × ((length (now fall) ≡ 64) × (length (now constant) ≡ 64))) ⌝ }
-    ensures { λ r. ⌜ MarksFrom (now (groups .entry)) (now (jump .entry)) (now (fall .entry)) (now (constant .entry)) effects r ⌝ }
+    requires { ⌜ (length (now groups) ≡ 256) ×
+        ((length (now jump) ≡ 64) × ((length (now fall) ≡ 64) × (length (now constant) ≡ 64))) ⌝ }
+    ensures { λ r. ⌜ MarksFrom (now (groups .entry)) (now (jump .entry)) (now (fall .entry))
+        (now (constant .entry)) effects r ⌝ }
 {
     let mut on = [0; 256];
     let mut by_jump = [0; 256];
@@ -205,7 +209,8 @@ fn marks_of(
 // The effects of a block, `own` of them from place `from` on: which tests they touch, and which edges the last on
 // their variable denies.
 fn hits_of(on: &[u64], jump: &[u64], fall: &[u64], from: usize, own: usize) -> Hits
-    requires { ⌜ ((length (now on) ≡ 256) × ((length (now jump) ≡ 256) × (length (now fall) ≡ 256))) × (from + own ≤ 256) ⌝ }
+    requires { ⌜ ((length (now on) ≡ 256) × ((length (now jump) ≡ 256) × (length (now fall) ≡ 256))) ×
+        (from + own ≤ 256) ⌝ }
     ensures { λ r. ⌜ HitsFrom (now (on .entry)) (now (jump .entry)) (now (fall .entry)) from own r ⌝ }
 {
     let mut touched = 0;
@@ -238,7 +243,8 @@ fn within(from: usize, own: usize) -> usize
 
 // The effects block by block, each block having so many as `owned` says.
 fn effect_rows(owned: &[usize], on: &[u64], jump: &[u64], fall: &[u64]) -> EffectRows
-    requires { ⌜ (length (now owned) ≡ 64) × ((length (now on) ≡ 256) × ((length (now jump) ≡ 256) × (length (now fall) ≡ 256))) ⌝ }
+    requires { ⌜ (length (now owned) ≡ 64) ×
+        ((length (now on) ≡ 256) × ((length (now jump) ≡ 256) × (length (now fall) ≡ 256))) ⌝ }
     ensures { λ r. ⌜ RowsFrom (now (owned .entry)) (now (on .entry)) (now (jump .entry)) (now (fall .entry)) r ⌝ }
 {
     let mut touched = [0; 64];
@@ -298,8 +304,10 @@ fn alike_rows(tests: u64, variable: &[u8]) -> [u64; 64]
 // Of those, the ones whose relation among the second no whole number meets together with the test's own among the
 // first.
 fn opposed_rows(alike: &[u64], first: &[u8], second: &[u8], constant: &[i32]) -> [u64; 64]
-    requires { ⌜ (length (now alike) ≡ 64) × ((length (now first) ≡ 64) × ((length (now second) ≡ 64) × (length (now constant) ≡ 64))) ⌝ }
-    ensures { λ r. ⌜ Told 0 (OpposedAt (now (alike .entry)) (now (first .entry)) (now (second .entry)) (now (constant .entry))) 64 64 r ⌝ }
+    requires { ⌜ (length (now alike) ≡ 64) ×
+        ((length (now first) ≡ 64) × ((length (now second) ≡ 64) × (length (now constant) ≡ 64))) ⌝ }
+    ensures { λ r. ⌜ Told 0
+        (OpposedAt (now (alike .entry)) (now (first .entry)) (now (second .entry)) (now (constant .entry))) 64 64 r ⌝ }
 {
     let mut r = [0; 64];
     let mut b = 0;

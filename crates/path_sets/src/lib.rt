@@ -23,7 +23,8 @@ struct Reach {
 // edge: the blocks from s down.
 fn reach_of(jump: &[usize], fall: &[usize], touched: &[u64], denied: &[u64], s: usize) -> Reach
     requires { ⌜ Ways (now jump) (now fall) (now touched) × ((length (now denied) ≡ 64) × (s < 64)) ⌝ }
-    ensures { λ r. ⌜ ReachOf (now (jump .entry)) (now (fall .entry)) (now (touched .entry)) (now (denied .entry)) s r ⌝ }
+    ensures { λ r. ⌜ ReachOf (now (jump .entry)) (now (fall .entry)) (now (touched .entry))
+        (now (denied .entry)) s r ⌝ }
 {
     let mut clean = 0;
     let mut by_jump = 0;
@@ -58,7 +59,10 @@ fn reach_if(
     s: usize,
 ) -> Reach
     requires { ⌜ Ways (now jump) (now fall) (now touched) × ((length (now denied) ≡ 64) × (s < 64)) ⌝ }
-    ensures { λ r. ⌜ (test ≡ true → ReachOf (now (jump .entry)) (now (fall .entry)) (now (touched .entry)) (now (denied .entry)) s r) × (test ≡ false → r ≡ noReach) ⌝ }
+    ensures { λ r. ⌜
+        (test ≡ true
+        → ReachOf (now (jump .entry)) (now (fall .entry)) (now (touched .entry)) (now (denied .entry)) s r) ×
+        (test ≡ false → r ≡ noReach) ⌝ }
 {
     if test {
         return reach_of(jump, fall, touched, denied, s);
@@ -128,8 +132,10 @@ fn firsts_of(
     jumping: &[u64],
     falling: &[u64],
 ) -> sets::Firsts
-    requires { ⌜ Ways (now jump) (now fall) (now touched) × ((length (now denied) ≡ 64) × ((length (now jumping) ≡ 64) × (length (now falling) ≡ 64))) ⌝ }
-    ensures { λ r. ⌜ FirstsOf tests (now (jump .entry)) (now (fall .entry)) (now (touched .entry)) (now (denied .entry)) (now (jumping .entry)) (now (falling .entry)) r ⌝ }
+    requires { ⌜ Ways (now jump) (now fall) (now touched) ×
+        ((length (now denied) ≡ 64) × ((length (now jumping) ≡ 64) × (length (now falling) ≡ 64))) ⌝ }
+    ensures { λ r. ⌜ FirstsOf tests (now (jump .entry)) (now (fall .entry)) (now (touched .entry))
+        (now (denied .entry)) (now (jumping .entry)) (now (falling .entry)) r ⌝ }
 {
     let mut assigned = [0; 64];
     let mut jumps = [0; 64];

@@ -22,7 +22,8 @@ fn byte_of(count: usize, jumped: u64, fallen: u64, b: usize) -> u8
 // The bytes of all blocks from the start of the lent bytes on; those past them are unchanged. How many.
 pub fn write_route(count: usize, jumped: u64, fallen: u64, route: &mut [u8]) -> usize
     requires { ⌜ count ≤ length (now route) ⌝ }
-    ensures { λ r. ⌜ (r ≡ count) × (now (route .exit) ≡ bytesOf count jumped fallen ++ drop count (now (route .entry))) ⌝ }
+    ensures { λ r. ⌜ (r ≡ count) ×
+        (now (route .exit) ≡ bytesOf count jumped fallen ++ drop count (now (route .entry))) ⌝ }
 {
     let mut b = 0;
     while b < count {

@@ -29,7 +29,10 @@ fn entries(form: &[u8]) -> u64
 // The first five lines.
 fn five_lines(out: &mut [u8], form: &[u8], iterations: u64, weight: u64, bound: u64) -> usize
     requires { ⌜ 200 ≤ length (now out) ⌝ }
-    ensures { λ r. ⌜ (judge (now (form .entry)) ≡ Accepted → Adds (now (out .entry)) 0 (now (out .exit)) r (fiveLines (bodyOf (now (form .entry))) iterations weight bound)) × (r ≤ 200) ⌝ }
+    ensures { λ r. ⌜
+        (judge (now (form .entry)) ≡ Accepted
+        → Adds (now (out .entry)) 0 (now (out .exit)) r
+        (fiveLines (bodyOf (now (form .entry))) iterations weight bound)) × (r ≤ 200) ⌝ }
 {
     let reading = reader::read(form);
     let body = reading.body;

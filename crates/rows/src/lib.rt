@@ -67,7 +67,8 @@ fn opened(side: Side, edges: u64) -> u64
 fn add_tail(jumps: Side, falls: Side, cost: u64, tail: Entry, row: &mut [u64], held: usize) -> usize
     requires { ⌜ (length (now row) ≡ 320) × (held ≤ 64) ⌝ }
     requires { ⌜ cost + tail .way .weight < 2 ^ 64 ⌝ }
-    ensures { λ r. ⌜ Grown (pushed jumps falls cost (tupleOf tail) (entriesFrom (now (row .entry)) 0 held)) (now (row .entry)) (now (row .exit)) r ⌝ }
+    ensures { λ r. ⌜ Grown (pushed jumps falls cost (tupleOf tail) (entriesFrom (now (row .entry)) 0 held))
+        (now (row .entry)) (now (row .exit)) r ⌝ }
 {
     if hits(jumps, tail.jumps) | hits(falls, tail.falls) != 0 {
         return held;
@@ -123,7 +124,9 @@ pub fn build(
 ) -> usize
     requires { ⌜ Ready (now plan) b tails (now first) (now second) ⌝ }
     requires { ⌜ (length (now row) ≡ 320) × (begun ≤ 64) ⌝ }
-    ensures { λ r. ⌜ Grown (leftFrom (now (plan .entry)) b (tailsBy tails (now (first .entry)) (now (second .entry))) 1 (entriesFrom (now (row .entry)) 0 begun)) (now (row .entry)) (now (row .exit)) r ⌝ }
+    ensures { λ r. ⌜ Grown
+        (leftFrom (now (plan .entry)) b (tailsBy tails (now (first .entry)) (now (second .entry))) 1
+        (entriesFrom (now (row .entry)) 0 begun)) (now (row .entry)) (now (row .exit)) r ⌝ }
 {
     let mut held = begun;
     let mut way = 1;

@@ -14,8 +14,10 @@ use sweep_steps::Swept;
 
 // The table's entries, `entries` of them from entry `from` on, into a row; the table stays as it is. How many.
 fn fetch(table: &mut [Entry], from: usize, entries: usize, row: &mut [u64]) -> usize
-    requires { ⌜ ((entries ≤ 64) × (length (now row) ≡ 320)) × ((k : ℕ) → k < entries → from + k < length (now table)) ⌝ }
-    ensures { λ r. ⌜ (now (table .exit) ≡ now (table .entry)) × (now (row .exit) ≡ fetched (now (row .entry)) (now (table .entry)) from entries) ⌝ }
+    requires { ⌜ ((entries ≤ 64) × (length (now row) ≡ 320)) ×
+        ((k : ℕ) → k < entries → from + k < length (now table)) ⌝ }
+    ensures { λ r. ⌜ (now (table .exit) ≡ now (table .entry)) ×
+        (now (row .exit) ≡ fetched (now (row .entry)) (now (table .entry)) from entries) ⌝ }
 {
     let mut k = 0;
     while k < entries {
@@ -63,7 +65,8 @@ fn sweep_rows(plan: &[u64], count: usize, table: &mut [Entry]) -> Swept
 // The sweep, for any bytes: the loop count, the first heaviest conflict-free route with its bytes, count times weight,
 // and the longest row, with all rows in the table; or a refusal.
 pub fn sweep(form: &[u8], table: &mut [Entry], route: &mut [u8]) -> SweepAnswer
-    ensures { λ r. ⌜ SweepOwed (now (form .entry)) (now (route .entry)) (now (table .entry)) (outcomeOf r (now (route .exit)) (now (table .exit))) ⌝ }
+    ensures { λ r. ⌜ SweepOwed (now (form .entry)) (now (route .entry)) (now (table .entry))
+        (outcomeOf r (now (route .exit)) (now (table .exit))) ⌝ }
 {
     let ready = plan::prepare(form);
     let plan = ready.plan;

@@ -110,7 +110,9 @@ pub fn make(
     made: &mut [u64],
 ) -> Built
     requires { ⌜ Ready (now plan) (s .b) (tailsIn s) (now first) (now second) × (length (now made) ≡ 320) ⌝ }
-    ensures { λ r. ⌜ BuiltAs (leftFrom (now (plan .entry)) (s .b) (tailsBy (tailsIn s) (now (first .entry)) (now (second .entry))) 1 (begunWith (now (plan .entry)) count (s .b))) (s .b) (now (made .exit)) r ⌝ }
+    ensures { λ r. ⌜ BuiltAs
+        (leftFrom (now (plan .entry)) (s .b) (tailsBy (tailsIn s) (now (first .entry)) (now (second .entry))) 1
+        (begunWith (now (plan .entry)) count (s .b))) (s .b) (now (made .exit)) r ⌝ }
 {
     let b = s.b;
     let tails = Tails {
@@ -232,7 +234,8 @@ fn answer(
 ) -> SweepAnswer
     requires { ⌜ (count ≤ length (now route)) × ((length (now row) ≡ 320) × (iterations < 4294967296)) ⌝ }
     requires { ⌜ (0 < found → structAt (now row) 0 .way .weight ≤ costLimit) ⌝ }
-    ensures { λ r. ⌜ (r, now (route .exit)) ≡ answerOf count iterations kept found (structAt (now (row .entry)) 0 .way) (now (route .entry)) ⌝ }
+    ensures { λ r. ⌜ (r, now (route .exit)) ≡ answerOf count iterations kept found
+        (structAt (now (row .entry)) 0 .way) (now (route .entry)) ⌝ }
 {
     if found == 0 {
         return refuse(43, 0);
@@ -278,7 +281,8 @@ pub fn conclude(
     first: [u64; 320],
     route: &mut [u8],
 ) -> SweepAnswer
-    requires { ⌜ (ready .count ≤ 64) × ((ready .number ≡ 0 → ready .iterations < 4294967296) × WeightFew swept first) ⌝ }
+    requires { ⌜ (ready .count ≤ 64) ×
+        ((ready .number ≡ 0 → ready .iterations < 4294967296) × WeightFew swept first) ⌝ }
     ensures { λ r. ⌜ (r, now (route .exit)) ≡ concluded ready entries swept first (now (route .entry)) ⌝ }
 {
     if ready.number > 0 {

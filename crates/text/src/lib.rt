@@ -19,7 +19,8 @@ fn number(out: &mut [u8], at: usize, n: u64) -> usize
 // A word and a number.
 pub fn line(out: &mut [u8], at: usize, word: &[u8], n: u64) -> usize
     requires { ⌜ at + length (now word) + 21 ≤ length (now out) ⌝ }
-    ensures { λ r. ⌜ Adds (now (out .entry)) at (now (out .exit)) r (lineText (now (word .entry)) n) × (r ≤ at + length (now (word .entry)) + 21) ⌝ }
+    ensures { λ r. ⌜ Adds (now (out .entry)) at (now (out .exit)) r (lineText (now (word .entry)) n) ×
+        (r ≤ at + length (now (word .entry)) + 21) ⌝ }
 {
     let a = lent::put(out, at, word);
     let b = number(out, a, n);
