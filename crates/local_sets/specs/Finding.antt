@@ -140,11 +140,15 @@ module _ (body : Body) (size : length (body .blocks) ≡ 64) (c : Columns)
       sym (contradict-is (conditionAt t first b) (conditionAt t second k))
       ∙ ap₂ contradict (shows b (test-inside b e)) (knows k (test-inside k d)))))
 
-  opposed-edges : (first : List ℕ) (way : ℕ) → Shows first way → (r : Edges) → OpposedOf t first r
+  abbrev Opposes : (alike first : List ℕ) → Edges → Type 0
+  Opposes alike first r = OpposedOf alike first (t .jump) (t .fall) (t .constant) r
+
+  opposed-edges : (alike first : List ℕ) (way : ℕ) → Shows first way
+      → Told 0 (AlikeAt (t .tests) (t .variable)) 64 64 alike → (r : Edges) → Opposes alike first r
       → r ≡ edgeRows (λ b e. opposes body (b, way) e)
-  opposed-edges first way shows r o = λ i. record {
-    jump = opposed-is (o .alike) first (t .jump) way 1 shows by-jump (o .alikes) (r .jump) (o .jumps) i;
-    fall = opposed-is (o .alike) first (t .fall) way 2 shows by-fall (o .alikes) (r .fall) (o .falls) i;
+  opposed-edges alike first way shows same r o = λ i. record {
+    jump = opposed-is alike first (t .jump) way 1 shows by-jump same (r .jump) (o .jumps) i;
+    fall = opposed-is alike first (t .fall) way 2 shows by-fall same (r .fall) (o .falls) i;
   }
 
   -- ---- the rest
@@ -166,8 +170,9 @@ module _ (body : Body) (size : length (body .blocks) ≡ 64) (c : Columns)
   tests-are : t .tests ≡ setOf 64 (isTest body)
   tests-are = same-bits (t .tests) (setOf 64 (isTest body)) (λ k. test-bit k ∙ sym (set-bits (isTest body) off k))
 
-  pub local-is : (e : EffectRows) → EffectRowsOf t (c .owned) (body .effects) e → (jumping falling : Edges)
-      → OpposedOf t (t .jump) jumping → OpposedOf t (t .fall) falling
+  pub local-is : (e : EffectRows) → EffectRowsOf t (c .owned) (body .effects) e → (alike : List ℕ)
+      → Told 0 (AlikeAt (t .tests) (t .variable)) 64 64 alike → (jumping falling : Edges)
+      → Opposes alike (t .jump) jumping → Opposes alike (t .fall) falling
       → record {
         tests = t .tests;
         targets = c .targets;
@@ -178,7 +183,7 @@ module _ (body : Body) (size : length (body .blocks) ≡ 64) (c : Columns)
         variable = t .variable;
       } ≡ localOf body
   unfolding localOf block
-  local-is e rowed jumping falling one two = λ i. record {
+  local-is e rowed alike same jumping falling one two = λ i. record {
     tests = tests-are i;
     targets = targets-are i;
     touched = touched-is (e .touched) (rowed .touched) i;
@@ -187,7 +192,7 @@ module _ (body : Body) (size : length (body .blocks) ≡ 64) (c : Columns)
       fall = denied-is
           (t .fall) 2 by-fall (e .denied .fall) (rowed .falls) i;
     };
-    jumping = opposed-edges (t .jump) 1 by-jump jumping one i;
-    falling = opposed-edges (t .fall) 2 by-fall falling two i;
+    jumping = opposed-edges alike (t .jump) 1 by-jump same jumping one i;
+    falling = opposed-edges alike (t .fall) 2 by-fall same falling two i;
     variable = told-tabled (λ b. block body b .variable) 0 64 (t .variable) (shown .variables) i;
   }

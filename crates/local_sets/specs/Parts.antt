@@ -140,15 +140,18 @@ abbrev pub AlikeAt : (tests : ℕ) (variable : List ℕ) → ℕ → ℕ → Typ
 AlikeAt tests variable b x = (j : ℕ)
     → bit x j ≡ bit tests b && (bit tests j && eqb (getD variable j 0) (getD variable b 0))
 
--- of those, the ones whose edge by the second way no whole number meets together with b's by the first
+-- of a set of tests, the ones whose edge by one way (its relations) no whole number meets that has the relation to the
+-- constant too
+abbrev pub OpposedIn : (set : ℕ) (relations : List ℕ) (constants : List ℤ) (relation : ℕ) (constant : ℤ) → ℕ → Type 0
+OpposedIn set relations constants relation constant x = (j : ℕ)
+    → bit x j ≡ bit set j && not (shares relation constant (getD relations j 0) (getD constants j (pos 0)))
+
+-- of the tests alike, the ones whose edge by the second way no whole number meets together with b's by the first
 abbrev pub OpposedAt : (alike first second : List ℕ) (constant : List ℤ) → ℕ → ℕ → Type 0
 OpposedAt alike first second constant b x =
-    (j : ℕ) → bit x j ≡ bit (getD alike b 0) j && not
-    (shares (getD first b 0) (getD constant b (pos 0)) (getD second j 0) (getD constant j (pos 0)))
+    OpposedIn (getD alike b 0) second constant (getD first b 0) (getD constant b (pos 0)) x
 
 -- by both ways of the second
-pub record OpposedOf (t : Tests) (first : List ℕ) (r : Edges) : Type 0 where
-  pub alike : List ℕ
-  pub alikes : Told 0 (AlikeAt (t .tests) (t .variable)) 64 64 alike
-  pub jumps : Told 0 (OpposedAt alike first (t .jump) (t .constant)) 64 64 (r .jump)
-  pub falls : Told 0 (OpposedAt alike first (t .fall) (t .constant)) 64 64 (r .fall)
+pub record OpposedOf (alike first jump fall : List ℕ) (constant : List ℤ) (r : Edges) : Type 0 where
+  pub jumps : Told 0 (OpposedAt alike first jump constant) 64 64 (r .jump)
+  pub falls : Told 0 (OpposedAt alike first fall constant) 64 64 (r .fall)

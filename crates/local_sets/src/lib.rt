@@ -15,7 +15,7 @@ ghost use Rattle.lower_laws.specs.PairTest.{shares};
 ghost use Rattle.lower_laws.specs.Effects.{Within};
 ghost use Rattle.lower_laws.specs.Endings.{target};
 ghost use Rattle.local_sets.specs.Parts.{blockIn, ColumnsOf, Sized, OnVariable, MarksFrom, HitsFrom, RowsFrom};
-ghost use Rattle.local_sets.specs.Parts.{EffectRowsOf, AlikeAt, OpposedAt, OpposedOf};
+ghost use Rattle.local_sets.specs.Parts.{EffectRowsOf, OpposedIn, AlikeAt, OpposedOf};
 ghost use Rattle.sets.specs.Local.{localOf};
 
 // The tests of a body: which blocks they are, and each block's variable, relation by jump and by fall, and constant.
@@ -40,6 +40,12 @@ struct Marks {
     on: [u64; 256],
     jump: [u64; 256],
     fall: [u64; 256],
+}
+
+// Of a set of tests, those whose edge by jump, and those whose edge by fall, conflicts with a condition.
+struct Against {
+    jump: u64,
+    fall: u64,
 }
 
 // The tests that a block touches, and those whose jump or fall edge its last effect on their variable denies.
@@ -152,22 +158,42 @@ fn tests_by_variable(tests: u64, variable: &[u8]) -> [u64; 256]
     r
 }
 
-// Those of the set whose relation to their constant no whole number has together with the relation to the constant.
-fn opposed(set: u64, relations: &[u8], constants: &[i32], relation: u8, constant: i32) -> u64
-    requires { ⌜ (length (now relations) ≡ 64) × (length (now constants) ≡ 64) ⌝ }
-    ensures { λ r. ⌜ ((j : ℕ) → bit r j ≡ bit set j &&
-        not (shares relation constant (getD (now (relations .entry)) j 0)
-        (getD (now (constants .entry)) j (pos 0)))) ⌝ }
+// Those of the set whose edge by jump, and those whose edge by fall, no whole number meets that has the relation to the
+// constant too.
+fn opposed(
+    set: u64,
+    jump: &[u8],
+    fall: &[u8],
+    constants: &[i32],
+    relation: u8,
+    constant: i32,
+) -> Against
+    requires { ⌜ (length (now jump) ≡ 64) × ((length (now fall) ≡ 64) × (length (now constants) ≡ 64)) ⌝ }
+    ensures { λ r. ⌜ OpposedIn set (now (jump .entry)) (now (constants .entry)) relation constant (r .jump) ×
+        OpposedIn set (now (fall .entry)) (now (constants .entry)) relation constant (r .fall) ⌝ }
 {
-    let mut r = 0;
+    let mut by_jump = 0;
+    let mut by_fall = 0;
     let mut left = set;
     while left != 0 {
         let j = words::lowest(left);
-        let against = pair::conflicting(relation, constant, relations[j], constants[j]);
-        r = words::put(r, j, against);
+        let value = constants[j];
+        by_jump = words::put(
+            by_jump,
+            j,
+            pair::conflicting(relation, constant, jump[j], value),
+        );
+        by_fall = words::put(
+            by_fall,
+            j,
+            pair::conflicting(relation, constant, fall[j], value),
+        );
         left = words::rest(left);
     }
-    r
+    Against {
+        jump: by_jump,
+        fall: by_fall,
+    }
 }
 
 // What each effect by itself does to the tests: `groups` has the tests on each variable, then come the tests'
@@ -195,8 +221,9 @@ fn marks_of(
         let alike = groups[v];
         let set = words::only(a.how == 1, alike);
         on[k] = alike;
-        by_jump[k] = opposed(set, jump, constant, 0, value);
-        by_fall[k] = opposed(set, fall, constant, 0, value);
+        let o = opposed(set, jump, fall, constant, 0, value);
+        by_jump[k] = o.jump;
+        by_fall[k] = o.fall;
         k += 1;
     }
     Marks {
@@ -268,29 +295,32 @@ fn effect_rows(owned: &[usize], on: &[u64], jump: &[u64], fall: &[u64]) -> Effec
     EffectRows { touched, denied }
 }
 
-// What the blocks' effects do to the tests.
-fn effects_by(owned: [usize; 64], effects: [form::Effect; 256], t: Tests) -> EffectRows
-    requires { ⌜ Sized t ⌝ }
-    ensures { λ r. ⌜ EffectRowsOf t owned effects r ⌝ }
+// What the blocks' effects do to the tests: `groups` has the tests on each variable.
+fn effects_by(
+    owned: [usize; 64],
+    effects: [form::Effect; 256],
+    groups: &[u64],
+    t: Tests,
+) -> EffectRows
+    requires { ⌜ Sized t × (length (now groups) ≡ 256) ⌝ }
+    ensures { λ r. ⌜ (OnVariable (t .tests) (t .variable) (now (groups .entry)) → EffectRowsOf t owned effects r) ⌝ }
 {
-    let variable = t.variable;
     let jump = t.jump;
     let fall = t.fall;
     let constant = t.constant;
-    let groups = tests_by_variable(t.tests, &variable);
-    let marks = marks_of(effects, &groups, &jump, &fall, &constant);
+    let marks = marks_of(effects, groups, &jump, &fall, &constant);
     let on = marks.on;
     let by_jump = marks.jump;
     let by_fall = marks.fall;
     effect_rows(&owned, &on, &by_jump, &by_fall)
 }
 
-// For each test, the tests on its variable.
-fn alike_rows(tests: u64, variable: &[u8]) -> [u64; 64]
-    requires { ⌜ length (now variable) ≡ 64 ⌝ }
-    ensures { λ r. ⌜ Told 0 (AlikeAt tests (now (variable .entry))) 64 64 r ⌝ }
+// For each test, the tests on its variable: `groups` has those on each variable.
+fn alike_rows(tests: u64, variable: &[u8], groups: &[u64]) -> [u64; 64]
+    requires { ⌜ (length (now variable) ≡ 64) × (length (now groups) ≡ 256) ⌝ }
+    ensures { λ r. ⌜ (OnVariable tests (now (variable .entry)) (now (groups .entry))
+        → Told 0 (AlikeAt tests (now (variable .entry))) 64 64 r) ⌝ }
 {
-    let groups = tests_by_variable(tests, variable);
     let mut r = [0; 64];
     let mut b = 0;
     while b < 64 {
@@ -301,37 +331,45 @@ fn alike_rows(tests: u64, variable: &[u8]) -> [u64; 64]
     r
 }
 
-// Of those, the ones whose relation among the second no whole number meets together with the test's own among the
-// first.
-fn opposed_rows(alike: &[u64], first: &[u8], second: &[u8], constant: &[i32]) -> [u64; 64]
-    requires { ⌜ (length (now alike) ≡ 64) ×
-        ((length (now first) ≡ 64) × ((length (now second) ≡ 64) × (length (now constant) ≡ 64))) ⌝ }
-    ensures { λ r. ⌜ Told 0
-        (OpposedAt (now (alike .entry)) (now (first .entry)) (now (second .entry)) (now (constant .entry))) 64 64 r ⌝ }
+// Of those, the ones whose edge by jump, and by fall, no whole number meets together with the test's own relation among
+// the first.
+fn opposed_rows(
+    alike: &[u64],
+    first: &[u8],
+    jump: &[u8],
+    fall: &[u8],
+    constant: &[i32],
+) -> sets::Edges
+    requires { ⌜ ((length (now alike) ≡ 64) × (length (now first) ≡ 64)) ×
+        ((length (now jump) ≡ 64) × ((length (now fall) ≡ 64) × (length (now constant) ≡ 64))) ⌝ }
+    ensures { λ r. ⌜ OpposedOf (now (alike .entry)) (now (first .entry)) (now (jump .entry)) (now (fall .entry))
+        (now (constant .entry)) r ⌝ }
 {
-    let mut r = [0; 64];
+    let mut by_jump = [0; 64];
+    let mut by_fall = [0; 64];
     let mut b = 0;
     while b < 64 {
         let value = constant[b];
-        r[b] = opposed(alike[b], second, constant, first[b], value);
+        let o = opposed(alike[b], jump, fall, constant, first[b], value);
+        by_jump[b] = o.jump;
+        by_fall[b] = o.fall;
         b += 1;
     }
-    r
+    sets::Edges {
+        jump: by_jump,
+        fall: by_fall,
+    }
 }
 
 // The edges that each test's edge by one way conflicts with, that way's relations being `first`.
-fn opposed_edges(first: [u8; 64], t: Tests) -> sets::Edges
-    requires { ⌜ Sized t × (length first ≡ 64) ⌝ }
-    ensures { λ r. ⌜ OpposedOf t first r ⌝ }
+fn opposed_edges(alike: &[u64], first: [u8; 64], t: Tests) -> sets::Edges
+    requires { ⌜ Sized t × ((length (now alike) ≡ 64) × (length first ≡ 64)) ⌝ }
+    ensures { λ r. ⌜ OpposedOf (now (alike .entry)) first (t .jump) (t .fall) (t .constant) r ⌝ }
 {
-    let variable = t.variable;
-    let by_jump = t.jump;
-    let by_fall = t.fall;
+    let jump = t.jump;
+    let fall = t.fall;
     let constant = t.constant;
-    let alike = alike_rows(t.tests, &variable);
-    let jump = opposed_rows(&alike, &first, &by_jump, &constant);
-    let fall = opposed_rows(&alike, &first, &by_fall, &constant);
-    sets::Edges { jump, fall }
+    opposed_rows(alike, &first, &jump, &fall, &constant)
 }
 
 pub fn local_of(body: form::Body) -> sets::Local
@@ -343,15 +381,17 @@ pub fn local_of(body: form::Body) -> sets::Local
     let t = columns.tests;
     let targets = columns.targets;
     let owned = columns.owned;
-    let e = effects_by(owned, effects, t);
-    let jump = t.jump;
-    let fall = t.fall;
-    let jumping = opposed_edges(jump, t);
-    let falling = opposed_edges(fall, t);
-    let touched = e.touched;
-    let denied = e.denied;
     let tests = t.tests;
     let variable = t.variable;
+    let jump = t.jump;
+    let fall = t.fall;
+    let groups = tests_by_variable(tests, &variable);
+    let e = effects_by(owned, effects, &groups, t);
+    let alike = alike_rows(tests, &variable, &groups);
+    let jumping = opposed_edges(&alike, jump, t);
+    let falling = opposed_edges(&alike, fall, t);
+    let touched = e.touched;
+    let denied = e.denied;
     sets::Local {
         tests,
         targets,
