@@ -1,6 +1,6 @@
 -- A route's bytes from its two sets of blocks, and the loop that writes them. Rests on the laws' Terms and on lent's
 -- Adding; theory's `bytes-words` says that they are the route's.
-use mathlib.Core.Path.{_≡_, refl, ap, sym, _∙_}
+use mathlib.Core.Path.{_≡_, refl, ap, sym, subst, _∙_}
 use mathlib.Core.Bool.{cond}
 use mathlib.Core.List.{List, [], _∷_, _++_, map}
 use Prim.Native.Nat.{ℕ, zero, suc, _+_, _≤_}
@@ -43,18 +43,29 @@ module _ (count jumped fallen : ℕ) where
   abbrev pub bytesBelow : ℕ → List ℕ
   bytesBelow b = map (byteOf count jumped fallen) (range 0 b)
 
-  pub written-more : (lent held : List ℕ) (b v : ℕ) → v ≡ byteOf count jumped fallen b
-      → Adds lent 0 held b (bytesBelow b) → Adds lent 0 (set held b v) (b + 1) (bytesBelow (b + 1))
-  written-more lent held b v e w = told next (then w (one held b v))
+  pub written-more : (lent held : List ℕ) (at b v : ℕ) → v ≡ byteOf count jumped fallen b
+      → Adds lent at held (at + b) (bytesBelow b) → Adds lent at (set held (at + b) v) (at + (b + 1)) (bytesBelow (b + 1))
+  written-more lent held at b v e w = record { end = next-end; holds = more .holds }
     where
       next : bytesBelow b ++ (v ∷ []) ≡ bytesBelow (b + 1)
       next =
           ap (λ (x : ℕ). bytesBelow b ++ (x ∷ [])) (e ∙ ap (byteOf count jumped fallen) (sym (zero-add b)))
           ∙ sym (row-last (byteOf count jumped fallen) 0 b) ∙ ap bytesBelow (sym (add-one b))
 
-  pub written-all : (lent held : List ℕ) (b : ℕ) → b ≡ count → count ≤ length lent
-      → Adds lent 0 held b (bytesBelow b) → held ≡ bytesOf count jumped fallen ++ drop count lent
+      more : Adds lent at (set held (at + b) v) (at + b + 1) (bytesBelow (b + 1))
+      more = told next (then w (one held (at + b) v))
+
+      next-end : at + (b + 1) ≡ at + length (bytesBelow (b + 1))
+      next-end = omega (arith, more .end)
+
+  pub written-all : (lent held : List ℕ) (at b : ℕ) → b ≡ count → Adds lent at held (at + b) (bytesBelow b)
+      → Adds lent at held (at + count) (bytesOf count jumped fallen)
   unfolding bytesOf
-  written-all lent held b e room w =
-      from-start (told (ap bytesBelow e) w) (omega (arith, bytes-length))
-      ∙ ap (λ (n : ℕ). bytesBelow count ++ drop n lent) bytes-length
+  written-all lent held at b e w = subst (λ (n : ℕ). Adds lent at held (at + n) (bytesBelow n)) e w
+
+  -- from the start on
+  pub from-first : (lent held : List ℕ) (r : ℕ) → count ≤ length lent
+      → Adds lent 0 held r (bytesOf count jumped fallen) → held ≡ bytesOf count jumped fallen ++ drop count lent
+  from-first lent held r room w =
+      from-start w (omega (arith, bytes-length))
+      ∙ ap (λ (n : ℕ). bytesOf count jumped fallen ++ drop n lent) bytes-length

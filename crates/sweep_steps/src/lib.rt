@@ -243,7 +243,7 @@ fn answer(
     let first = entries::entry_at(row, 0);
     let way = first.way;
     let weight = way.weight;
-    plan::route::write_route(count, way.jumped, way.fallen, route);
+    plan::route::write_route(route, 0, count, way.jumped, way.fallen);
     SweepAnswer::Routed {
         iterations,
         weight,

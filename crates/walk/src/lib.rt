@@ -55,7 +55,7 @@ fn walk_planned(
         return refuse(43, 0);
     }
     let weight = found[2];
-    plan::route::write_route(count, found[3], found[4], route);
+    plan::route::write_route(route, 0, count, found[3], found[4]);
     WalkAnswer::Walked {
         iterations,
         weight,

@@ -4,6 +4,7 @@ use Prim.Native.Nat.{ℕ, _<_, _≤_}
 use native.Mathlib.Omega.{arith}
 use Rattle.theory.specs.Plan.{costLimit}
 use Rattle.plan.specs.Accepted.{product}
+use Rattle.plan.specs.RouteWords.{from-first}
 use Rattle.entries.specs.declared.Entry.{Entry}
 use Rattle.entries.specs.Structs.{structAt}
 use Rattle.sweep_steps.specs.Ends.{answerOf, answer-none, answer-some}
@@ -34,7 +35,8 @@ returns-2 c =
     let read = written .before .before .before in
     let a = read .before .before .before .before .args in
     answer-some (a .count) (a .iterations) (a .kept) (a .found) (read .entry-at .result .way) (a .route .now)
-    (read .before .if1 .left) (written .write-route .ensures .1)
+    (read .before .if1 .left)
+    (from-first (a .count) _ _ _ _ _ (read .before .before .before .before .pre .0 .0) (written .write-route .ensures))
     ∙ ap (λ (e : Entry). answerOf (a .count) (a .iterations) (a .kept) (a .found) (e .way) (a .route .now))
     (read .entry-at .ensures)
 

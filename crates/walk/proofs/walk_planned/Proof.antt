@@ -1,8 +1,10 @@
 -- `walk::walk_planned` meets its contract, a law of the answer for each way out.
 use mathlib.Core.Path.{ap, _∙_}
+use native.Mathlib.Omega.{arith}
 use lib.ListN.{getD}
 use Rattle.laws.specs.Terms.{heavier}
 use Rattle.plan.specs.Accepted.{product}
+use Rattle.plan.specs.RouteWords.{from-first}
 use Rattle.walk.specs.declared.WalkAnswer.{WalkAnswer}
 use Rattle.walk.specs.Answer.{said}
 use Rattle.walk.specs.Ends.{short, over-budget, without-route, with-route, weight-few}
@@ -52,7 +54,8 @@ returns-4 c body cost p g size =
     (found .ensures body cost p g size) (a .count) size (a .route .now)
     (c .before .before .before .before .before .before .before .if1 .left) (a .iterations) g
     (c .before .before .before .before .before .if2 .left) (c .before .before .before .before .if3 .left) _
-    (c .before .before .write-route .ensures .1)
+    (from-first (a .count) _ _ _ _ _ (omega (arith, c .before .before .before .before .before .before .before .if1 .left))
+    (c .before .before .write-route .ensures))
 
 pub walk-planned-spec : {M : Type 1} → statement M
 walk-planned-spec =
