@@ -140,11 +140,8 @@ module _ (body : Body) (size : length (body .blocks) ≡ 64) (c : Columns)
       sym (contradict-is (conditionAt t first b) (conditionAt t second k))
       ∙ ap₂ contradict (shows b (test-inside b e)) (knows k (test-inside k d)))))
 
-  abbrev Opposes : (alike first : List ℕ) → Edges → Type 0
-  Opposes alike first r = OpposedOf alike first (t .jump) (t .fall) (t .constant) r
-
   opposed-edges : (alike first : List ℕ) (way : ℕ) → Shows first way
-      → Told 0 (AlikeAt (t .tests) (t .variable)) 64 64 alike → (r : Edges) → Opposes alike first r
+      → Told 0 (AlikeAt (t .tests) (t .variable)) 64 64 alike → (r : Edges) → OpposedOf t alike first r
       → r ≡ edgeRows (λ b e. opposes body (b, way) e)
   opposed-edges alike first way shows same r o = λ i. record {
     jump = opposed-is alike first (t .jump) way 1 shows by-jump same (r .jump) (o .jumps) i;
@@ -172,7 +169,7 @@ module _ (body : Body) (size : length (body .blocks) ≡ 64) (c : Columns)
 
   pub local-is : (e : EffectRows) → EffectRowsOf t (c .owned) (body .effects) e → (alike : List ℕ)
       → Told 0 (AlikeAt (t .tests) (t .variable)) 64 64 alike → (jumping falling : Edges)
-      → Opposes alike (t .jump) jumping → Opposes alike (t .fall) falling
+      → OpposedOf t alike (t .jump) jumping → OpposedOf t alike (t .fall) falling
       → record {
         tests = t .tests;
         targets = c .targets;

@@ -152,6 +152,6 @@ OpposedAt alike first second constant b x =
     OpposedIn (getD alike b 0) second constant (getD first b 0) (getD constant b (pos 0)) x
 
 -- by both ways of the second
-pub record OpposedOf (alike first jump fall : List ℕ) (constant : List ℤ) (r : Edges) : Type 0 where
-  pub jumps : Told 0 (OpposedAt alike first jump constant) 64 64 (r .jump)
-  pub falls : Told 0 (OpposedAt alike first fall constant) 64 64 (r .fall)
+pub record OpposedOf (t : Tests) (alike first : List ℕ) (r : Edges) : Type 0 where
+  pub jumps : Told 0 (OpposedAt alike first (t .jump) (t .constant)) 64 64 (r .jump)
+  pub falls : Told 0 (OpposedAt alike first (t .fall) (t .constant)) 64 64 (r .fall)

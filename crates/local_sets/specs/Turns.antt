@@ -18,7 +18,7 @@ use Rattle.lower_laws.specs.PairTest.{shares, equal-is}
 use Rattle.lower_laws.specs.Effects.{Reached, Within, reached-next, own-part, anyOf-last, refuses-more, touch-turn}
 use Rattle.lower_laws.specs.Effects.{deny-turn}
 use Rattle.local_sets.specs.declared.Tests.{Tests}
-use Rattle.local_sets.specs.Parts.{TouchedBy, DeniedBy, conditionAt, OnAt, MarkAt, HitsOf, passed, ownEffects}
+use Rattle.local_sets.specs.Parts.{TouchedBy, DeniedBy, conditionAt, OnAt, MarkAt, HitsOf, passed, ownEffects, OpposedIn}
 
 nothing : (j : ℕ) (t : Bool) → bit 0 j ≡ (t && false)
 nothing j true = bit-none j
@@ -39,8 +39,7 @@ hits-none t = record {
 pub mark-at :
     (t : Tests) (relation : List ℕ) (a : Effect) (alike set r : ℕ) → OnAt t a alike
     → ((j : ℕ) → bit set j ≡ eqb (a .how) 1 && bit alike j)
-    → ((j : ℕ) → bit r j ≡ bit set j && not (shares 0 (a .constant) (getD relation j 0)
-    (getD (t .constant) j (pos 0)))) → MarkAt t relation a r
+    → OpposedIn set relation (t .constant) 0 (a .constant) r → MarkAt t relation a r
 mark-at t relation a alike set r on decided found j =
     found j ∙ ap (λ b. b && not (shares 0 (a .constant) (getD relation j 0) (getD (t .constant) j (pos 0))))
     (decided j ∙ ap (λ b. eqb (a .how) 1 && b) (on j))

@@ -1,21 +1,17 @@
 // What a body's blocks, effects and edges say by themselves, as sets of edges in words: the part of its conflicts
 // that looks at no path. The meaning is in sets' Local and in form's Conflict.
 ghost use mathlib.Core.Path.{_≡_};
-ghost use mathlib.Core.Bool.{_&&_, not};
-ghost use Prim.Native.Nat.{ℕ, _+_, _≤_};
+ghost use Prim.Native.Nat.{_+_, _≤_};
 ghost use lib.Dec.{ltb};
-ghost use lib.ListN.{length, getD};
-ghost use lib.IntN.{pos};
-ghost use Rattle.laws.specs.Terms.{bit};
+ghost use lib.ListN.{length};
 ghost use Rattle.form.specs.Form.{when};
 ghost use Rattle.form.specs.Conflict.{noBlock};
 ghost use Rattle.form.specs.Relation.{opposite};
 ghost use Rattle.words.specs.Filled.{Told};
-ghost use Rattle.lower_laws.specs.PairTest.{shares};
 ghost use Rattle.lower_laws.specs.Effects.{Within};
 ghost use Rattle.lower_laws.specs.Endings.{target};
 ghost use Rattle.local_sets.specs.Parts.{blockIn, ColumnsOf, Sized, OnVariable, MarksFrom, HitsFrom, RowsFrom};
-ghost use Rattle.local_sets.specs.Parts.{EffectRowsOf, OpposedIn, AlikeAt, OpposedOf};
+ghost use Rattle.local_sets.specs.Parts.{EffectRowsOf, OpposedIn, AlikeAt, OpposedAt, OpposedOf};
 ghost use Rattle.sets.specs.Local.{localOf};
 
 // The tests of a body: which blocks they are, and each block's variable, relation by jump and by fall, and constant.
@@ -40,12 +36,6 @@ struct Marks {
     on: [u64; 256],
     jump: [u64; 256],
     fall: [u64; 256],
-}
-
-// Of a set of tests, those whose edge by jump, and those whose edge by fall, conflicts with a condition.
-struct Against {
-    jump: u64,
-    fall: u64,
 }
 
 // The tests that a block touches, and those whose jump or fall edge its last effect on their variable denies.
@@ -158,42 +148,20 @@ fn tests_by_variable(tests: u64, variable: &[u8]) -> [u64; 256]
     r
 }
 
-// Those of the set whose edge by jump, and those whose edge by fall, no whole number meets that has the relation to the
-// constant too.
-fn opposed(
-    set: u64,
-    jump: &[u8],
-    fall: &[u8],
-    constants: &[i32],
-    relation: u8,
-    constant: i32,
-) -> Against
-    requires { ⌜ (length (now jump) ≡ 64) × ((length (now fall) ≡ 64) × (length (now constants) ≡ 64)) ⌝ }
-    ensures { λ r. ⌜ OpposedIn set (now (jump .entry)) (now (constants .entry)) relation constant (r .jump) ×
-        OpposedIn set (now (fall .entry)) (now (constants .entry)) relation constant (r .fall) ⌝ }
+// Those of the set whose relation to their constant no whole number has together with the relation to the constant.
+fn opposed(set: u64, relations: &[u8], constants: &[i32], relation: u8, constant: i32) -> u64
+    requires { ⌜ (length (now relations) ≡ 64) × (length (now constants) ≡ 64) ⌝ }
+    ensures { λ r. ⌜ OpposedIn set (now (relations .entry)) (now (constants .entry)) relation constant r ⌝ }
 {
-    let mut by_jump = 0;
-    let mut by_fall = 0;
+    let mut r = 0;
     let mut left = set;
     while left != 0 {
         let j = words::lowest(left);
-        let value = constants[j];
-        by_jump = words::put(
-            by_jump,
-            j,
-            pair::conflicting(relation, constant, jump[j], value),
-        );
-        by_fall = words::put(
-            by_fall,
-            j,
-            pair::conflicting(relation, constant, fall[j], value),
-        );
+        let against = pair::conflicting(relation, constant, relations[j], constants[j]);
+        r = words::put(r, j, against);
         left = words::rest(left);
     }
-    Against {
-        jump: by_jump,
-        fall: by_fall,
-    }
+    r
 }
 
 // What each effect by itself does to the tests: `groups` has the tests on each variable, then come the tests'
@@ -221,9 +189,8 @@ fn marks_of(
         let alike = groups[v];
         let set = words::only(a.how == 1, alike);
         on[k] = alike;
-        let o = opposed(set, jump, fall, constant, 0, value);
-        by_jump[k] = o.jump;
-        by_fall[k] = o.fall;
+        by_jump[k] = opposed(set, jump, constant, 0, value);
+        by_fall[k] = opposed(set, fall, constant, 0, value);
         k += 1;
     }
     Marks {
@@ -331,45 +298,35 @@ fn alike_rows(tests: u64, variable: &[u8], groups: &[u64]) -> [u64; 64]
     r
 }
 
-// Of those, the ones whose edge by jump, and by fall, no whole number meets together with the test's own relation among
-// the first.
-fn opposed_rows(
-    alike: &[u64],
-    first: &[u8],
-    jump: &[u8],
-    fall: &[u8],
-    constant: &[i32],
-) -> sets::Edges
-    requires { ⌜ ((length (now alike) ≡ 64) × (length (now first) ≡ 64)) ×
-        ((length (now jump) ≡ 64) × ((length (now fall) ≡ 64) × (length (now constant) ≡ 64))) ⌝ }
-    ensures { λ r. ⌜ OpposedOf (now (alike .entry)) (now (first .entry)) (now (jump .entry)) (now (fall .entry))
-        (now (constant .entry)) r ⌝ }
+// Of those, the ones whose relation among the second no whole number meets together with the test's own among the
+// first.
+fn opposed_rows(alike: &[u64], first: &[u8], second: &[u8], constant: &[i32]) -> [u64; 64]
+    requires { ⌜ (length (now alike) ≡ 64) ×
+        ((length (now first) ≡ 64) × ((length (now second) ≡ 64) × (length (now constant) ≡ 64))) ⌝ }
+    ensures { λ r. ⌜ Told 0
+        (OpposedAt (now (alike .entry)) (now (first .entry)) (now (second .entry)) (now (constant .entry))) 64 64 r ⌝ }
 {
-    let mut by_jump = [0; 64];
-    let mut by_fall = [0; 64];
+    let mut r = [0; 64];
     let mut b = 0;
     while b < 64 {
         let value = constant[b];
-        let o = opposed(alike[b], jump, fall, constant, first[b], value);
-        by_jump[b] = o.jump;
-        by_fall[b] = o.fall;
+        r[b] = opposed(alike[b], second, constant, first[b], value);
         b += 1;
     }
-    sets::Edges {
-        jump: by_jump,
-        fall: by_fall,
-    }
+    r
 }
 
 // The edges that each test's edge by one way conflicts with, that way's relations being `first`.
 fn opposed_edges(alike: &[u64], first: [u8; 64], t: Tests) -> sets::Edges
     requires { ⌜ Sized t × ((length (now alike) ≡ 64) × (length first ≡ 64)) ⌝ }
-    ensures { λ r. ⌜ OpposedOf (now (alike .entry)) first (t .jump) (t .fall) (t .constant) r ⌝ }
+    ensures { λ r. ⌜ OpposedOf t (now (alike .entry)) first r ⌝ }
 {
-    let jump = t.jump;
-    let fall = t.fall;
+    let by_jump = t.jump;
+    let by_fall = t.fall;
     let constant = t.constant;
-    opposed_rows(alike, &first, &jump, &fall, &constant)
+    let jump = opposed_rows(alike, &first, &by_jump, &constant);
+    let fall = opposed_rows(alike, &first, &by_fall, &constant);
+    sets::Edges { jump, fall }
 }
 
 pub fn local_of(body: form::Body) -> sets::Local

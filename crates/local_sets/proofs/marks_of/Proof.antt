@@ -58,11 +58,17 @@ shared-slice-read-alike c = in-room
 
 opposed-requires : tie.Need-opposed-requires Inv-loop μ-loop
 opposed-requires c κs =
-    c .before .before .before .before .before .before .before .before .before .before .before .pre .1
+    let p = c .before .before .before .before .before .before .before .before .before .before .before .pre in
+    (p .1 .0, p .1 .1 .1)
+
+opposed-requires-2 : tie.Need-opposed-requires-2 Inv-loop μ-loop
+opposed-requires-2 c κs =
+    c .before .before .before .before .before .before .before .before .before .before .before .before .pre .1 .1
 
 loop-again : tie.Need-loop-again Inv-loop μ-loop
 loop-again c =
-    let only = c .before in
+    let jumped = c .before in
+    let only = jumped .before in
     let told = only .before .before .before .before in
     let inner = told .before .before in
     let at = inner .before in
@@ -87,10 +93,10 @@ loop-again c =
             ons = told-more _ _ _ _ _ _ below (was .ons) alike;
             jumps = told-more _ _ _ _ _ _ below (was .jumps)
                 (mark-at t (t .jump) a _ _ _ alike (only .only .ensures)
-                (rw (toZ-ofZ value) at (c .opposed .ensures .0)));
+                (rw (toZ-ofZ value) at (jumped .opposed .ensures)));
             falls = told-more _ _ _ _ _ _ below (was .falls)
                 (mark-at t (t .fall) a _ _ _ alike (only .only .ensures)
-                (rw (toZ-ofZ value) at (c .opposed .ensures .1)));
+                (rw (toZ-ofZ value) at (c .opposed2 .ensures)));
           },
     )
 
@@ -109,7 +115,9 @@ marks-of-spec =
     (λ c. c .before .before .before .before .before .before .loop-test .taken) opposed-requires
     (λ c. fits-8 (c .before .before .before .before .before .before .before .loop-test .taken))
     (λ c. c .before .before .before .before .before .before .before .loop-test .taken)
-    (λ c. fits-8 (c .before .before .before .before .before .before .before .loop-test .taken))
-    (λ c. c .before .before .before .before .before .before .before .loop-test .taken)
-    (λ c. fits-next (c .before .before .before .before .before .before .before .loop-test .taken))
-    (λ c. less-left 256 (c .before .before .before .before .before .before .before .loop-test .taken)) loop-again returns)
+    opposed-requires-2 (λ c. fits-8
+    (c .before .before .before .before .before .before .before .before .loop-test .taken))
+    (λ c. c .before .before .before .before .before .before .before .before .loop-test .taken)
+    (λ c. fits-next (c .before .before .before .before .before .before .before .before .loop-test .taken))
+    (λ c. less-left 256
+    (c .before .before .before .before .before .before .before .before .loop-test .taken)) loop-again returns)
