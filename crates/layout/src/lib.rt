@@ -9,75 +9,95 @@ ghost use mir.Syntax.{w32};
 ghost use mir.Val.{ofZ};
 ghost use Rattle.form.specs.Form.{counterBytes, blockBytes, effectBytes, layEffects, lay, countsFit};
 ghost use Rattle.lent.specs.Adding.{Adds};
+ghost use Rattle.layout.specs.Number.{bytesOf};
 
-// The 32 bits of a signed number.
-fn bits_of(z: i32) -> u32
-    ensures { λ r. ⌜ r ≡ ofZ w32 z ⌝ }
+// The four bytes of a number, as a record has them: the lowest first.
+struct FourBytes {
+    lowest: u8,
+    second: u8,
+    third: u8,
+    highest: u8,
+}
+
+fn bytes_of(n: u32) -> FourBytes
+    ensures { λ r. ⌜ r ≡ bytesOf n ⌝ }
+{
+    FourBytes {
+        lowest: (n % 256) as u8,
+        second: (n / 256 % 256) as u8,
+        third: (n / 65536 % 256) as u8,
+        highest: (n / 16777216 % 256) as u8,
+    }
+}
+
+// Those of a signed number's 32 bits.
+fn signed_bytes(z: i32) -> FourBytes
+    ensures { λ r. ⌜ r ≡ bytesOf (ofZ w32 z) ⌝ }
 {
     if 0 <= z {
-        return z as u32;
+        return bytes_of(z as u32);
     }
     let below = (-1 - z) as u32;
-    4294967295 - below
+    bytes_of(4294967295 - below)
 }
 
 fn counter_bytes(c: form::Counter) -> [u8; 17]
     ensures { λ r. ⌜ r ≡ counterBytes c ⌝ }
 {
-    let i = bits_of(c.initial);
-    let s = bits_of(c.step);
-    let l = bits_of(c.limit);
+    let i = signed_bytes(c.initial);
+    let s = signed_bytes(c.step);
+    let l = signed_bytes(c.limit);
     [
         17,
         0,
         1,
         0,
-        (i % 256) as u8,
-        (i / 256 % 256) as u8,
-        (i / 65536 % 256) as u8,
-        (i / 16777216 % 256) as u8,
-        (s % 256) as u8,
-        (s / 256 % 256) as u8,
-        (s / 65536 % 256) as u8,
-        (s / 16777216 % 256) as u8,
+        i.lowest,
+        i.second,
+        i.third,
+        i.highest,
+        s.lowest,
+        s.second,
+        s.third,
+        s.highest,
         c.relation,
-        (l % 256) as u8,
-        (l / 256 % 256) as u8,
-        (l / 65536 % 256) as u8,
-        (l / 16777216 % 256) as u8,
+        l.lowest,
+        l.second,
+        l.third,
+        l.highest,
     ]
 }
 
 fn block_bytes(k: form::Block) -> [u8; 17]
     ensures { λ r. ⌜ r ≡ blockBytes k ⌝ }
 {
-    let cost = k.cost;
-    let c = bits_of(k.constant);
+    let cost = bytes_of(k.cost);
+    let c = signed_bytes(k.constant);
     [
         17,
         0,
         2,
         0,
-        (cost % 256) as u8,
-        (cost / 256 % 256) as u8,
-        (cost / 65536 % 256) as u8,
-        (cost / 16777216 % 256) as u8,
+        cost.lowest,
+        cost.second,
+        cost.third,
+        cost.highest,
         k.ending,
         k.jump,
         k.fall,
         k.variable,
         k.relation,
-        (c % 256) as u8,
-        (c / 256 % 256) as u8,
-        (c / 65536 % 256) as u8,
-        (c / 16777216 % 256) as u8,
+        c.lowest,
+        c.second,
+        c.third,
+        c.highest,
     ]
 }
 
 fn effect_bytes(e: form::Effect) -> [u8; 10]
     ensures { λ r. ⌜ r ≡ effectBytes e ⌝ }
 {
-    let c = bits_of(e.constant);
+    let c = signed_bytes(e.constant);
     [
         10,
         0,
@@ -85,10 +105,10 @@ fn effect_bytes(e: form::Effect) -> [u8; 10]
         0,
         e.variable,
         e.how,
-        (c % 256) as u8,
-        (c / 256 % 256) as u8,
-        (c / 65536 % 256) as u8,
-        (c / 16777216 % 256) as u8,
+        c.lowest,
+        c.second,
+        c.third,
+        c.highest,
     ]
 }
 
@@ -155,8 +175,7 @@ fn lay_block(
 {
     let bytes = block_bytes(block);
     let after = lent::put(buf, at, &bytes);
-    let own = block.effects;
-    lay_effects(buf, after, effects, e, own)
+    lay_effects(buf, after, effects, e, block.effects)
 }
 
 // A body laid out from the buffer's start on; how many bytes that takes.
@@ -167,8 +186,7 @@ pub fn lay(buf: &mut [u8], body: form::Body) -> usize
     let count = body.count;
     let blocks = body.blocks;
     let effects = body.effects;
-    let counter = body.counter;
-    let first = counter_bytes(counter);
+    let first = counter_bytes(body.counter);
     let mut at = lent::put(buf, 0, &first);
     let mut k = 0;
     let mut e = 0;

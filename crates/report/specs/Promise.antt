@@ -30,7 +30,8 @@ use Rattle.ways.specs.Answered.{Answered, answered-sound, answered-agree}
 use Rattle.ways.specs.Walk.{walk-answered, one-walk}
 use Rattle.ways.specs.Sweep.{own-answered, one-own}
 use Rattle.text.specs.Text.{refusalLine}
-use Rattle.report.specs.Report.{eightLines, noRoute, budget, Reported}
+use Rattle.lines.specs.Lines.{noRoute, budget}
+use Rattle.report.specs.Report.{eightLines, Reported}
 use Rattle.report.specs.Report.Reported.{refused, reported}
 
 -- ---- one text

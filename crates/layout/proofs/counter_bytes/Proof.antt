@@ -1,7 +1,6 @@
 -- `layout::counter_bytes` meets its contract.
-use borrow.Author.Needs.{needs}
-use Rattle.laws.specs.Complement.{field-bits}
 use Rattle.form.specs.Form.{kindOf}
+use Rattle.layout.specs.Number.{field-bytes}
 use Rattle.layout.proofs.counter_bytes.Statement.{statement}
 use Rattle.layout.proofs.counter_bytes.Tie as tie
 
@@ -13,14 +12,10 @@ returns c =
     let field = initial .before .struct-told .given in
     let counter = initial .before .before .args .c in
     rw (
-      field-bits (counter .initial) (field .0 .1) (initial .bits-of .ensures),
-      field-bits (counter .step) (field .1 .0 .1) (step .bits-of2 .ensures),
-      field-bits (counter .limit) (field .1 .1 .1 .0 .1) (c .bits-of3 .ensures),
+      field-bytes (counter .initial) (field .0 .1) (initial .signed-bytes .ensures),
+      field-bytes (counter .step) (field .1 .0 .1) (step .signed-bytes2 .ensures),
+      field-bytes (counter .limit) (field .1 .1 .1 .0 .1) (c .signed-bytes3 .ensures),
     )
 
 pub counter-bytes-spec : {M : Type 1} → statement M
-counter-bytes-spec =
-    tie.close
-    (tie.spec (λ _ _. tt) (λ _ _. tt) (λ _ _. tt) (λ c. search needs) (λ c. search needs) (λ c. search needs)
-    (λ c. search needs) (λ c. search needs) (λ c. search needs) (λ c. search needs) (λ c. search needs)
-    (λ c. search needs) (λ c. search needs) (λ c. search needs) (λ c. search needs) returns)
+counter-bytes-spec = tie.close (tie.spec (λ _ _. tt) (λ _ _. tt) (λ _ _. tt) returns)

@@ -40,7 +40,7 @@ loop-holds c = (refl, omega arith)
 
 -- the entry, from the loop's head
 abbrev entry : tie.At-loop Inv-loop μ-loop → tie.Start Inv-loop μ-loop
-entry c = c .before .before .before .before .before .before .before .before .before .before .before
+entry c = c .before .before .before .before .before .before .before .before .before .before
 
 abbrev body : tie.At-loop Inv-loop μ-loop → Body
 body c = entry c .args .body

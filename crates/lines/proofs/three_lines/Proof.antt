@@ -1,9 +1,9 @@
--- `report::three_lines` meets its contract: three lines, one behind the other. Assumes nothing.
+-- `lines::three_lines` meets its contract: three lines, one behind the other. Assumes nothing.
 use native.Mathlib.Omega.{arith}
 use Rattle.lent.specs.Adding.{then}
 use borrow.Author.Needs.{needs}
-use Rattle.report.proofs.three_lines.Statement.{statement}
-use Rattle.report.proofs.three_lines.Tie as tie
+use Rattle.lines.proofs.three_lines.Statement.{statement}
+use Rattle.lines.proofs.three_lines.Tie as tie
 
 returns : tie.Need-returns
 returns c =

@@ -1,11 +1,11 @@
--- `report::five_lines` meets its contract: five lines, one behind the other, over the body that is read and the entries
+-- `lines::five_lines` meets its contract: five lines, one behind the other, over the body that is read and the entries
 -- of its list. Assumes nothing.
 use native.Mathlib.Omega.{arith}
 use Rattle.lent.specs.Adding.{then}
-use Rattle.report.specs.Parts.{read-count}
+use Rattle.lines.specs.Parts.{read-count}
 use borrow.Author.Needs.{needs}
-use Rattle.report.proofs.five_lines.Statement.{statement}
-use Rattle.report.proofs.five_lines.Tie as tie
+use Rattle.lines.proofs.five_lines.Statement.{statement}
+use Rattle.lines.proofs.five_lines.Tie as tie
 
 returns : tie.Need-returns
 returns c =

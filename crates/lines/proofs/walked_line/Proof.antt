@@ -1,9 +1,9 @@
--- `report::walked_line` meets its contract, case by case of the walk's answer (Parts). Assumes nothing.
+-- `lines::walked_line` meets its contract, case by case of the walk's answer (Parts). Assumes nothing.
 use native.Mathlib.Omega.{arith}
-use Rattle.report.specs.Parts.{walked-shown}
+use Rattle.lines.specs.Parts.{walked-shown}
 use borrow.Author.Needs.{needs}
-use Rattle.report.proofs.walked_line.Statement.{statement}
-use Rattle.report.proofs.walked_line.Tie as tie
+use Rattle.lines.proofs.walked_line.Statement.{statement}
+use Rattle.lines.proofs.walked_line.Tie as tie
 
 returns : tie.Need-returns
 returns c =

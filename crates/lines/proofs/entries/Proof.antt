@@ -1,10 +1,10 @@
--- `report::entries` meets its contract: the list tells its bytes, five an entry, with room or without (Parts). Assumes
+-- `lines::entries` meets its contract: the list tells its bytes, five an entry, with room or without (Parts). Assumes
 -- nothing.
 use native.Mathlib.Omega.{arith}
-use Rattle.report.specs.Parts.{all-bytes, all-needed}
+use Rattle.lines.specs.Parts.{all-bytes, all-needed}
 use borrow.Author.Needs.{needs}
-use Rattle.report.proofs.entries.Statement.{statement}
-use Rattle.report.proofs.entries.Tie as tie
+use Rattle.lines.proofs.entries.Statement.{statement}
+use Rattle.lines.proofs.entries.Tie as tie
 
 returns : tie.Need-returns
 returns c =

@@ -1,5 +1,5 @@
--- `layout::bits_of` meets its contract, by the two's complement of 32 bits.
-use mathlib.Core.Path.{_≡_}
+-- `layout::signed_bytes` meets its contract, by the two's complement of 32 bits.
+use mathlib.Core.Path.{_≡_, ap, _∙_}
 use Prim.Native.Nat.{_≤_}
 use native.Mathlib.Omega.{arith}
 use lib.IntN.{pos, negsuc, _-ℤ_}
@@ -7,18 +7,20 @@ use mir.Facts.{toZ-ofZ}
 use mir.Syntax.{w32}
 use mir.Val.{ofZ, toZ}
 use Rattle.laws.specs.Complement.{natural-bits, Complement, negative-bits}
-use Rattle.layout.proofs.bits_of.Statement.{statement}
-use Rattle.layout.proofs.bits_of.Tie as tie
+use Rattle.layout.specs.Number.{bytesOf}
+use Rattle.layout.proofs.signed_bytes.Statement.{statement}
+use Rattle.layout.proofs.signed_bytes.Tie as tie
 
-cast-result : tie.Need-cast-result
-cast-result c =
+cast-bytes-of : tie.Need-cast-bytes-of
+cast-bytes-of c =
     let e = toZ-ofZ (c .before .fits .z) in
     rw e (natural-bits _ (c .before .fits .z) (rw e at (c .if1 .taken)) .0)
 
 returns : tie.Need-returns
 returns c =
-    let e = toZ-ofZ (c .before .fits .z) in
-    rw e (natural-bits _ (c .before .fits .z) (rw e at (c .if1 .taken)) .1)
+    let e = toZ-ofZ (c .before .before .fits .z) in
+    rw e at (c .bytes-of .ensures)
+    ∙ ap bytesOf (natural-bits _ (c .before .before .fits .z) (rw e at (c .before .if1 .taken)) .1)
 
 below : (c : tie.Else1) → Complement (c .before .args .z)
 below c = negative-bits _ (c .before .fits .z) (rw (toZ-ofZ (c .before .fits .z)) at (c .if1 .left))
@@ -33,13 +35,14 @@ turned c = rw (toZ-ofZ (c .before .fits .z), below c .1)
 cast-below : tie.Need-cast-below
 cast-below c = rw (turned c) (tt, record { fits = omega (arith, below c .2) })
 
-sub-result : tie.Need-sub-result
-sub-result c =
+sub-bytes-of : tie.Need-sub-bytes-of
+sub-bytes-of c =
     let small : below c .0 ≤ 4294967295 = omega (arith, below c .2) in
     rw (turned c) small
 
 returns-2 : tie.Need-returns-2
-returns-2 c = rw (turned c) (below c .3)
+returns-2 c = rw (turned (c .before)) at (c .bytes-of2 .ensures) ∙ ap bytesOf (below (c .before) .3)
 
-pub bits-of-spec : {M : Type 1} → statement M
-bits-of-spec = tie.close (tie.spec cast-result returns sub-below cast-below sub-result returns-2)
+pub signed-bytes-spec : {M : Type 1} → statement M
+signed-bytes-spec =
+    tie.close (tie.spec cast-bytes-of (λ _ _. tt) returns sub-below cast-below sub-bytes-of (λ _ _. tt) returns-2)

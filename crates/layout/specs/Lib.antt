@@ -1,0 +1,2 @@
+-- The four bytes of a number, as the functions hand them on.
+pub mod Number
