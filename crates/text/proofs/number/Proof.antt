@@ -1,4 +1,4 @@
--- `number` meets its contract: io's digits are those of Report, 20 at most. Assumes nothing.
+-- `number` meets its contract: io's digits are those of Text, 20 at most. Assumes nothing.
 use mathlib.Core.Path.{_≡_, ap, _∙_}
 use native.Mathlib.Omega.{arith}
 use lib.ListN.{length, take}
