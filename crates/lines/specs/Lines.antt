@@ -30,6 +30,10 @@ weightWord = 119 ∷ 101 ∷ 105 ∷ 103 ∷ 104 ∷ 116 ∷ 32 ∷ []
 abbrev pub boundWord : List ℕ
 boundWord = 98 ∷ 111 ∷ 117 ∷ 110 ∷ 100 ∷ 32 ∷ []
 
+-- "route"
+abbrev pub routeWord : List ℕ
+routeWord = 114 ∷ 111 ∷ 117 ∷ 116 ∷ 101 ∷ []
+
 -- "kept "
 abbrev pub keptWord : List ℕ
 keptWord = 107 ∷ 101 ∷ 112 ∷ 116 ∷ 32 ∷ []

@@ -20,7 +20,7 @@ use Rattle.walk.specs.declared.WalkAnswer.{WalkAnswer}
 use Rattle.walk.specs.Answer.{WalkOwed, said}
 use Rattle.lent.specs.Adding.{Adds}
 use Rattle.text.specs.Text.{line, routeLine}
-use Rattle.lines.specs.Lines.{blocksWord, iterationsWord, conflictsWord, weightWord, boundWord, keptWord}
+use Rattle.lines.specs.Lines.{blocksWord, iterationsWord, conflictsWord, weightWord, boundWord, routeWord, keptWord}
 use Rattle.lines.specs.Lines.{walkedLine, noRoute, budget}
 
 -- the walk's line, from an answer that the walk owes
@@ -43,7 +43,7 @@ pub record ThreeAdds (form before : List ℕ) (at : ℕ) (after : List ℕ) (r :
   pub walk : WalkAnswer
   pub held : List ℕ
   pub owed : WalkOwed form budget noRoute (said walk, held)
-  pub adds : Adds before at after r (routeLine route ++ (line keptWord kept ++ walkedLine walk))
+  pub adds : Adds before at after r (routeLine routeWord route ++ (line keptWord kept ++ walkedLine walk))
   pub few : r ≤ at + 1500
 
 -- the list of an accepted form, whether there was room for it or not, tells its bytes, five an entry

@@ -61,11 +61,12 @@ fn walked_line(out: &mut [u8], at: usize, form: &[u8]) -> usize
 }
 
 // The last three lines.
-pub fn three_lines(out: &mut [u8], at: usize, form: &[u8], kept: u64, route: [u8; 64]) -> usize
-    requires { ⌜ at + 1500 ≤ length (now out) ⌝ }
-    ensures { λ r. ⌜ ThreeAdds (now (form .entry)) (now (out .entry)) at (now (out .exit)) r kept route ⌝ }
+pub fn three_lines(out: &mut [u8], at: usize, form: &[u8], kept: u64, route: &[u8]) -> usize
+    requires { ⌜ (at + 1500 ≤ length (now out)) × (length (now route) ≤ 64) ⌝ }
+    ensures { λ r. ⌜ ThreeAdds (now (form .entry)) (now (out .entry)) at (now (out .exit)) r kept
+        (now (route .entry)) ⌝ }
 {
-    let a = text::route(out, at, route);
+    let a = text::route(out, at, b"route", route);
     let b = text::line(out, a, b"kept ", kept);
     walked_line(out, b, form)
 }

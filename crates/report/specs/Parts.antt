@@ -13,7 +13,7 @@ use Rattle.sweep_steps.specs.Answer.{OwnTableOwed}
 use Rattle.ways.specs.Sweep.{own-answered}
 use Rattle.lent.specs.Adding.{Adds, then, up-to-end}
 use Rattle.text.specs.Text.{line, refusalLine, routeLine}
-use Rattle.lines.specs.Lines.{blocksWord, iterationsWord, conflictsWord, weightWord, boundWord, keptWord}
+use Rattle.lines.specs.Lines.{blocksWord, iterationsWord, conflictsWord, weightWord, boundWord, routeWord, keptWord}
 use Rattle.lines.specs.Lines.{walkedLine, noRoute}
 use Rattle.lines.specs.Parts.{fiveLines, ThreeAdds}
 use Rattle.report.specs.Report.{Reported}
@@ -38,7 +38,7 @@ routed-reported form o mid p a r route answer iterations weight bound kept says 
     (up-to-end (then (five accepted) (three .adds)) room
     ∙ five-and-three (line blocksWord (bodyOf form .count)) (line iterationsWord iterations)
     (line conflictsWord (length (conflicts (bodyOf form)))) (line weightWord weight) (line boundWord bound)
-    (routeLine route ++ (line keptWord kept ++ walkedLine (three .walk))))
+    (routeLine routeWord route ++ (line keptWord kept ++ walkedLine (three .walk))))
 
 pub refused-reported : (form o p : List ℕ) (r : ℕ) (route : List ℕ) (answer : SweepAnswer) (number place : ℕ)
     → OwnTableOwed form noRoute answer route → answer ≡ Unswept number place → Adds o 0 p r (refusalLine number place)

@@ -13,7 +13,7 @@ use Rattle.walk.specs.declared.WalkAnswer.{WalkAnswer}
 use Rattle.walk.specs.Answer.{WalkOwed, said}
 use Rattle.sweep_steps.specs.Answer.{OwnTableOwed}
 use Rattle.text.specs.Text.{line, refusalLine, routeLine}
-use Rattle.lines.specs.Lines.{blocksWord, iterationsWord, conflictsWord, weightWord, boundWord, keptWord}
+use Rattle.lines.specs.Lines.{blocksWord, iterationsWord, conflictsWord, weightWord, boundWord, routeWord, keptWord}
 use Rattle.lines.specs.Lines.{walkedLine, noRoute, budget}
 
 abbrev pub eightLines : Body → (iterations weight bound kept : ℕ) → (route : List ℕ) → WalkAnswer → List ℕ
@@ -22,7 +22,7 @@ eightLines body iterations weight bound kept route walk =
     ++ (line iterationsWord iterations
     ++ (line conflictsWord (length (conflicts body))
     ++ (line weightWord weight ++
-    (line boundWord bound ++ (routeLine route ++ (line keptWord kept ++ walkedLine walk))))))
+    (line boundWord bound ++ (routeLine routeWord route ++ (line keptWord kept ++ walkedLine walk))))))
 
 -- The text for these bytes: the sweep's refusal alone; or the eight lines, from the sweep's answer and route and the
 -- walk's answer. The sweep is that over a table of 1,536 entries.

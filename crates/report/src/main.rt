@@ -21,7 +21,7 @@ fn report(form: &[u8], out: &mut [u8]) -> usize
             kept,
         } => {
             let a = lines::five_lines(out, form, iterations, weight, bound);
-            lines::three_lines(out, a, form, kept, route)
+            lines::three_lines(out, a, form, kept, &route)
         }
         SweepAnswer::Refused { number, place } => text::refused(out, number as u64, place as u64),
     }

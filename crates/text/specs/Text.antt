@@ -5,10 +5,6 @@ use mathlib.Core.List.{List, [], _∷_, _++_}
 use Prim.Native.Nat.{ℕ, zero, suc, _+_, _/_, _%_}
 use lib.Dec.{ltb, eqb}
 
--- "route"
-abbrev pub routeWord : List ℕ
-routeWord = 114 ∷ 111 ∷ 117 ∷ 116 ∷ 101 ∷ []
-
 -- "refused "
 abbrev pub refusedWord : List ℕ
 refusedWord = 114 ∷ 101 ∷ 102 ∷ 117 ∷ 115 ∷ 101 ∷ 100 ∷ 32 ∷ []
@@ -48,5 +44,5 @@ unfoldable pub stepsFrom : (block : ℕ) → List ℕ → List ℕ
 stepsFrom block [] = []
 stepsFrom block (way ∷ ways) = step block way ++ stepsFrom (suc block) ways
 
-abbrev pub routeLine : List ℕ → List ℕ
-routeLine bytes = routeWord ++ (stepsFrom 0 bytes ++ (10 ∷ []))
+abbrev pub routeLine : (word bytes : List ℕ) → List ℕ
+routeLine word bytes = word ++ (stepsFrom 0 bytes ++ (10 ∷ []))

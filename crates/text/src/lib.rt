@@ -61,14 +61,15 @@ fn step(out: &mut [u8], at: usize, block: usize, way: u8) -> usize
     lent::put(out, b, &last)
 }
 
-// The blocks on the route, with their ways.
-pub fn route(out: &mut [u8], at: usize, bytes: [u8; 64]) -> usize
-    requires { ⌜ at + 1414 ≤ length (now out) ⌝ }
-    ensures { λ r. ⌜ Adds (now (out .entry)) at (now (out .exit)) r (routeLine bytes) × (r ≤ at + 1414) ⌝ }
+// A word, and the blocks on a route with their ways.
+pub fn route(out: &mut [u8], at: usize, word: &[u8], bytes: &[u8]) -> usize
+    requires { ⌜ (at + length (now word) + 1409 ≤ length (now out)) × (length (now bytes) ≤ 64) ⌝ }
+    ensures { λ r. ⌜ Adds (now (out .entry)) at (now (out .exit)) r
+        (routeLine (now (word .entry)) (now (bytes .entry))) × (r ≤ at + length (now (word .entry)) + 1409) ⌝ }
 {
-    let mut to = lent::put(out, at, b"route");
+    let mut to = lent::put(out, at, word);
     let mut block = 0;
-    while block < 64 {
+    while block < bytes.len() {
         to = step(out, to, block, bytes[block]);
         block += 1;
     }
