@@ -20,8 +20,8 @@ use Rattle.form.specs.Conflict.{contradict, opposes, denies, clean, assigned, c
 use Rattle.form.specs.Conflict.{conflictBytes, listed}
 use Rattle.theory.specs.Route.{stepCost, paths, conflict, tails, routes, weight, best, bestRoute, dearest}
 use Rattle.theory.specs.Route.{routeOn, wayOf, routeBytes, beginnings, walked}
-use Rattle.theory.specs.Row.{Entry, bare, openEdges, addKey, keys, rowOf, openTails, leftBy, row, longest, kept}
-use Rattle.theory.specs.Row.{highest, crowded}
+use Rattle.theory.specs.Row.{Entry, bare, openEdges, addKey, keys, rowOf, openSets, openTails, leftBy, row}
+use Rattle.theory.specs.Row.{longest, kept, highest, crowded}
 use Rattle.theory.specs.Run.{State, Does, Iteration}
 use Rattle.theory.specs.Run.Do.{done, does}
 use Rattle.theory.specs.Run.Iteration.{ends, goes}
@@ -131,23 +131,23 @@ unfolding block effectsBelow effectsOf touches lastOn exits isTest condition con
     tails weight best listed bare openEdges addKey keys rowOf openTails leftBy row setOf
 rows-are = refl
 
-four-at-most : longest rowAt 8 ≡ 4
+four-at-most : longest (openSets example pairs) 8 ≡ 4
 unfolding block effectsBelow effectsOf touches lastOn exits isTest condition contradict opposes denies conflict paths
-    tails weight best listed bare openEdges addKey keys rowOf openTails leftBy row setOf longest
+    tails listed bare openEdges addKey keys openSets setOf longest
 four-at-most = refl
 
-pub kept-is : kept example (stepCost example) heavier ≡ 4
+pub kept-is : kept example ≡ 4
 unfolding kept
-kept-is = ap (λ l. longest (row example l (stepCost example) heavier) 8) pairs-are ∙ four-at-most
+kept-is = ap (λ l. longest (openSets example l) 8) pairs-are ∙ four-at-most
 
-none-crowded : highest rowAt 8 ≡ none
+none-crowded : highest (openSets example pairs) 8 ≡ none
 unfolding block effectsBelow effectsOf touches lastOn exits isTest condition contradict opposes denies conflict paths
-    tails weight best listed bare openEdges addKey keys rowOf openTails leftBy row setOf highest
+    tails listed bare openEdges addKey keys openSets setOf highest
 none-crowded = refl
 
-pub crowded-is : crowded example (stepCost example) heavier ≡ none
+pub crowded-is : crowded example ≡ none
 unfolding crowded
-crowded-is = ap (λ l. highest (row example l (stepCost example) heavier) 8) pairs-are ∙ none-crowded
+crowded-is = ap (λ l. highest (openSets example l) 8) pairs-are ∙ none-crowded
 
 -- an iteration that starts with 50 in every variable takes the heaviest route
 abbrev fifty : State
