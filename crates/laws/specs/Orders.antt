@@ -1,14 +1,15 @@
 -- Strict total orders as Bool tests: pairs, lists of numbers at the first place where they part, and the choice between
 -- weights (heavier, lighter). Rests on Terms and Tests.
-use mathlib.Core.Path.{_≡_, refl, _∙_}
+use mathlib.Core.Path.{_≡_, refl, ap₂, _∙_}
 use mathlib.Core.Logic.{_⊎_, inl, inr}
 use mathlib.Core.Bool.{Bool, true, false}
 use mathlib.Core.List.{List, [], _∷_}
 use Prim.Native.Nat.{ℕ, _+_}
+use native.Mathlib.Nat.{add-comm}
 use native.Mathlib.Omega.{arith}
 use borrow.Author.Tests.{ltb-true, ltb-false, lt-ltb, le-ltb}
 use lib.Dec.{ltb}
-use Rattle.laws.specs.Terms.{next, pairb, heavier}
+use Rattle.laws.specs.Terms.{next, pairb, heavier, lighter}
 use Rattle.laws.specs.Tests.{split, clash, ltb-shift}
 
 pub record Order {A : Type 0} (lt : A → A → Bool) : Type 0 where
@@ -118,8 +119,15 @@ pub record Choice (prefers : ℕ → ℕ → Bool) : Type 0 where
   pub order : Order prefers
   pub shift : (c a b : ℕ) → prefers (c + a) (c + b) ≡ prefers a b
 
+-- a sum is not preferred where neither part is
+pub sum-unpreferred : {prefers : ℕ → ℕ → Bool} → Choice prefers → (a b c d : ℕ) → prefers a b ≡ false
+    → prefers c d ≡ false → prefers (a + c) (b + d) ≡ false
+sum-unpreferred {prefers} ch a b c d p q =
+    ntrans (ch .order) (a + c) (a + d) (b + d) (ch .shift a c d ∙ q)
+    (ap₂ prefers (add-comm a d) (add-comm b d) ∙ ch .shift d a b ∙ p)
+
 pub heaviest : Choice heavier
 heaviest = record { order = flip-order ltb ltb-order; shift = λ c a b. ltb-shift c b a }
 
-pub lightest : Choice ltb
+pub lightest : Choice lighter
 lightest = record { order = ltb-order; shift = ltb-shift }

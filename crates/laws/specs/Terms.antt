@@ -64,6 +64,10 @@ module _ {A B : Type 0} (lt : A → A → Bool) (mt : B → B → Bool) where
 abbrev pub heavier : ℕ → ℕ → Bool
 heavier a b = ltb b a
 
+-- a weight is preferred to a heavier one
+abbrev pub lighter : ℕ → ℕ → Bool
+lighter a b = ltb a b
+
 -- ---- sets of small numbers as numbers
 
 abbrev pub digit : Bool → ℕ

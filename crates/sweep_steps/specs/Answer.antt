@@ -68,7 +68,7 @@ module _ (body : Body) (side : Side) where
     abbrev pub routed : Option (ℕ × Path) → Outcome
     routed none = record { values = refusal 43 0; route = route; table = tableWith rowsOn 0 (body .count) table }
     routed (some v) = record {
-      values = answered count (v .0) (boundOf count (v .0)) (kept body (side .cost) (side .prefers));
+      values = answered count (v .0) (boundOf count (v .0)) (kept body);
       route = routeBytes body (v .1) ++ drop (body .count) route;
       table = tableWith rowsOn 0 (body .count) table;
     }
@@ -89,7 +89,7 @@ module _ (body : Body) (side : Side) where
     sweepOutcome =
         cond (ltb (length route) (body .count)) (refused route table 42 (body .count))
         (cond (ltb (length table) (64 * body .count)) (refused route table 44 (64 * body .count))
-        (swept (crowded body (side .cost) (side .prefers))))
+        (swept (crowded body)))
 
 -- ---- what is owed of any bytes: the dearest iteration
 

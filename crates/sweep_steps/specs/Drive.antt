@@ -18,9 +18,9 @@ use Rattle.form.specs.declared.Body.{Body}
 use Rattle.form.specs.Conflict.{Sound, conflicts}
 use Rattle.theory.specs.Route.{Side}
 use Rattle.theory.specs.Row as theory
-use Rattle.theory.specs.Row.{Key, filled, longest, highest}
+use Rattle.theory.specs.Row.{Key, openSets, filled, longest, highest, crowded}
 use Rattle.theory.specs.SweepWords as words
-use Rattle.theory.specs.SweepWords.{Words, row-words, row-length}
+use Rattle.theory.specs.SweepWords.{Words, row-words, words-count}
 use Rattle.theory.specs.Range.{Range, up-past}
 use Rattle.theory.specs.Plan.{costAt, Planned, PlanOf, costLimit}
 use Rattle.entries.specs.declared.Entry.{Entry}
@@ -81,27 +81,26 @@ lengths-more count b n lengths h few l w = record {
 abbrev pub heaviestBy : (cost : ℕ → ℕ → ℕ) → Side
 heaviestBy cost = record { prefers = heavier; cost = cost }
 
-abbrev pub longestRow : Body → (cost : ℕ → ℕ → ℕ) → ℕ → ℕ
-longestRow body cost = longest (rowsOn body (heaviestBy cost))
-
-abbrev pub highestCrowd : Body → (cost : ℕ → ℕ → ℕ) → ℕ → Option ℕ
-highestCrowd body cost = highest (rowsOn body (heaviestBy cost))
+-- the sets of open edges that row b has
+abbrev setsAt : Body → ℕ → List Key
+setsAt body = openSets body (conflicts body)
 
 -- the rows from b on are complete; what they say of kept and of the highest crowded block
 pub record Down (body : Body) (cost : ℕ → ℕ → ℕ) (lent table : List Entry) (lengths : List ℕ)
     (b kept found : ℕ) : Type 0 where
   pub rows : (t : ℕ) → b ≤ t → t < body .count → rowIn table lengths t ≡ rowOf body cost t
   pub table-is : table ≡ tableWith (rowsOn body (heaviestBy cost)) b (body .count) lent
-  pub kept-is : max kept (longestRow body cost b) ≡ longestRow body cost (body .count)
-  pub crowd-is : highestCrowd body cost b ≡ highestCrowd body cost (body .count)
+  pub kept-is : max kept (longest (setsAt body) b) ≡ theory.kept body
+  pub crowd-is : highest (setsAt body) b ≡ crowded body
   pub found-is : b < body .count → found ≡ length (rowOf body cost b)
 
 down-start : (body : Body) (cost : ℕ → ℕ → ℕ) (lent : List Entry) (lengths : List ℕ) → Down body cost lent lent lengths
     (body .count) 0 0
+unfolding theory.kept crowded
 down-start body cost lent lengths = record {
   rows = λ t h k. absurd (never t h k);
   table-is = sym (table-none (rowsOn body (heaviestBy cost)) (body .count) lent);
-  kept-is = zero-max (longestRow body cost (body .count));
+  kept-is = zero-max (longest (setsAt body) (body .count));
   crowd-is = refl;
   found-is = λ h. absurd (same h);
 }
@@ -115,11 +114,11 @@ down-start body cost lent lengths = record {
 max-three : (a b c : ℕ) → max (max a b) c ≡ max a (max b c)
 max-three a b c = omega arith
 
-longest-suc : (rows : ℕ → List theory.Entry) (b : ℕ) → longest rows (suc b) ≡ max (length (rows b)) (longest rows b)
+longest-suc : (rows : ℕ → List Key) (b : ℕ) → longest rows (suc b) ≡ max (length (rows b)) (longest rows b)
 unfolding longest
 longest-suc rows b = refl
 
-highest-suc : (rows : ℕ → List theory.Entry) (b : ℕ) → highest rows (suc b) ≡ cond (ltb 64 (length (rows b))) (some b)
+highest-suc : (rows : ℕ → List Key) (b : ℕ) → highest rows (suc b) ≡ cond (ltb 64 (length (rows b))) (some b)
     (highest rows b)
 unfolding highest
 highest-suc rows b = refl
@@ -128,8 +127,8 @@ module _ (body : Body) (cost : ℕ → ℕ → ℕ) (lent table : List Entry) (l
     (inside : b < body .count) (few : body .count ≤ 64) (room : 64 * body .count ≤ length lent)
     (same : length table ≡ length lent) (sizes : Lengths (body .count) (suc b) lengths)
     (d : Down body cost lent table lengths (suc b) kept found) where
-  row-size : length (rowsOn body (heaviestBy cost) b) ≡ length (rowOf body cost b)
-  row-size = row-length body (conflicts body) cost heavier b
+  row-size : length (setsAt body b) ≡ length (rowOf body cost b)
+  row-size = sym (words-count body (conflicts body) cost heavier b)
 
   -- a row of up to 64 entries is stored
   module _ (new : List Entry) (n : ℕ) (s : Stored (rowOf body cost b) table new b n) where
@@ -175,24 +174,24 @@ module _ (body : Body) (cost : ℕ → ℕ → ℕ) (lent table : List Entry) (l
           (row-laid (s .row) n (h .few) (h .zeros) ∙ ap (λ r. map entryFrom (filled r))
           (ap (map words.entryFrom) (h .held) ∙ sym (row-words body (conflicts body) cost heavier b)));
       kept-is =
-          max-three kept n (longestRow body cost b)
-          ∙ ap (λ m. max kept (max m (longestRow body cost b))) (n-is ∙ sym row-size)
-          ∙ ap (max kept) (sym (longest-suc (rowsOn body (heaviestBy cost)) b))
+          max-three kept n (longest (setsAt body) b)
+          ∙ ap (λ m. max kept (max m (longest (setsAt body) b))) (n-is ∙ sym row-size)
+          ∙ ap (max kept) (sym (longest-suc (setsAt body) b))
           ∙ d .kept-is;
       crowd-is =
-          sym (highest-suc (rowsOn body (heaviestBy cost)) b ∙ ap (λ c. cond c (some b) (highestCrowd body cost b))
-          (le-ltb 64 (length (rowsOn body (heaviestBy cost) b)) (omega (arith, row-size, n-is, h .few))))
+          sym (highest-suc (setsAt body) b ∙ ap (λ c. cond c (some b) (highest (setsAt body) b))
+          (le-ltb 64 (length (setsAt body b)) (omega (arith, row-size, n-is, h .few))))
           ∙ d .crowd-is;
       found-is = λ k. n-is;
     }
 
   -- more than 64 sets: the block is the highest crowded one
-  down-over : 64 < length (rowOf body cost b) → highestCrowd body cost (body .count) ≡ some b
+  down-over : 64 < length (rowOf body cost b) → crowded body ≡ some b
   down-over h =
       sym (d .crowd-is)
-      ∙ highest-suc (rowsOn body (heaviestBy cost)) b
-      ∙ ap (λ c. cond c (some b) (highestCrowd body cost b))
-      (lt-ltb 64 (length (rowsOn body (heaviestBy cost) b)) (omega (arith, row-size)))
+      ∙ highest-suc (setsAt body) b
+      ∙ ap (λ c. cond c (some b) (highest (setsAt body) b))
+      (lt-ltb 64 (length (setsAt body b)) (omega (arith, row-size)))
 
 -- ---- a turn, from the plan
 
@@ -246,7 +245,7 @@ module _ (body : Body) (g : Sound body) (cost : ℕ → ℕ → ℕ) (range : Ra
 
 -- the highest crowded block, or kept and the length of row 0
 abbrev pub sweptOf : Body → (cost : ℕ → ℕ → ℕ) → Option ℕ → Swept
-sweptOf body cost none = Rows (longestRow body cost (body .count)) (length (rowOf body cost 0))
+sweptOf body cost none = Rows (theory.kept body) (length (rowOf body cost 0))
 sweptOf body cost (some b) = Crowded b
 
 -- the rows from here on are complete
@@ -255,14 +254,13 @@ completeFrom none = 0
 completeFrom (some b) = suc b
 
 pub record SweptAs (body : Body) (cost : ℕ → ℕ → ℕ) (lent table : List Entry) (answer : Swept) : Type 0 where
-  pub answer-is : answer ≡ sweptOf body cost (highestCrowd body cost (body .count))
-  pub table-is : table ≡ tableWith (rowsOn body (heaviestBy cost))
-      (completeFrom (highestCrowd body cost (body .count))) (body .count) lent
+  pub answer-is : answer ≡ sweptOf body cost (crowded body)
+  pub table-is : table ≡ tableWith (rowsOn body (heaviestBy cost)) (completeFrom (crowded body)) (body .count) lent
   pub first : (kept found : ℕ) → answer ≡ Rows kept found → entriesIn table 0 found ≡ rowOf body cost 0
 
 module _ (body : Body) (cost : ℕ → ℕ → ℕ) (lent table : List Entry) (lengths : List ℕ) where
-  swept-crowded : (b kept found : ℕ) → highestCrowd body cost (body .count) ≡ some b
-      → Down body cost lent table lengths (suc b) kept found → SweptAs body cost lent table (Crowded b)
+  swept-crowded : (b kept found : ℕ) → crowded body ≡ some b → Down body cost lent table lengths (suc b) kept found
+      → SweptAs body cost lent table (Crowded b)
   swept-crowded b kept found e d = record {
     answer-is = sym (ap (sweptOf body cost) e);
     table-is = d .table-is ∙ ap (λ o. tableWith (rowsOn body (heaviestBy cost)) (completeFrom o) (body .count) lent)

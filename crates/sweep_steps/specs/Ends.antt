@@ -36,11 +36,10 @@ use Rattle.sweep_steps.specs.declared.Swept.{Swept}
 use Rattle.sweep_steps.specs.declared.Swept.the-variants.{Crowded, Rows}
 use Rattle.sweep_steps.specs.declared.SweepAnswer.{SweepAnswer}
 use Rattle.sweep_steps.specs.declared.SweepAnswer.the-variants.{Routed, Refused}
-use Rattle.sweep_steps.specs.Answer as Answer
 use Rattle.sweep_steps.specs.Answer.{noEntry, Outcome, outcomeOf, refused, tableWith, rowsOn, routed, swept, sweepOutcome, SweepOwed}
 use Rattle.sweep_steps.specs.Table.{entriesIn, in-length, in-mem, rowFetched, fetched-none, row-fetched-at}
 use Rattle.sweep_steps.specs.Turn.{rowOf}
-use Rattle.sweep_steps.specs.Drive.{heaviestBy, longestRow, highestCrowd, sweptOf, completeFrom, SweptAs, weight-few}
+use Rattle.sweep_steps.specs.Drive.{heaviestBy, sweptOf, completeFrom, SweptAs, weight-few}
 
 -- ---- what the functions that answer do
 
@@ -144,9 +143,8 @@ module _ (body : Body) (g : Sound body) (cost : ℕ → ℕ → ℕ) (n : ℕ) (
   abbrev Made : SweepAnswer × List ℕ → Option ℕ → Type 0
   Made x o = outcomeOf (x .0) (x .1) table ≡ swept body side route lent iterations o
 
-  over : (b : ℕ) → SweptAs body cost lent table (Crowded b) → Made (Refused 40 b, route)
-      (highestCrowd body cost (body .count))
-  over b s = by (highestCrowd body cost (body .count)) (s .answer-is) (s .table-is)
+  over : (b : ℕ) → SweptAs body cost lent table (Crowded b) → Made (Refused 40 b, route) (crowded body)
+  over b s = by (crowded body) (s .answer-is) (s .table-is)
     where
       by : (o : Option ℕ) → Crowded b ≡ sweptOf body cost o → table ≡ tableWith (rowsOn body side) (completeFrom o)
           (body .count) lent → Made (Refused 40 b, route) o
@@ -157,20 +155,16 @@ module _ (body : Body) (g : Sound body) (cost : ℕ → ℕ → ℕ) (n : ℕ) (
     row-zero : entriesIn table 0 find ≡ found noEdges (wordsFound body (routeOn body side))
     row-zero = s .first keep find refl ∙ row-zero-words body (conflicts body) cost heavier
 
-    uncrowded : (highestCrowd body cost (body .count) ≡ none) × (keep ≡ longestRow body cost (body .count))
-    uncrowded = by (highestCrowd body cost (body .count)) refl (s .answer-is)
+    uncrowded : (crowded body ≡ none) × (keep ≡ kept body)
+    uncrowded = by (crowded body) refl (s .answer-is)
       where
-        by : (o : Option ℕ) → highestCrowd body cost (body .count) ≡ o → Rows keep find ≡ sweptOf body cost o →
-            (highestCrowd body cost (body .count) ≡ none) × (keep ≡ longestRow body cost (body .count))
+        by : (o : Option ℕ) → crowded body ≡ o → Rows keep find ≡ sweptOf body cost o
+            → (crowded body ≡ none) × (keep ≡ kept body)
         by none e a = (e, cc)
         by (some c) e a = let z : _≡_ {A = ℕ} 0 1 = cc in absurd (omega arith)
 
     table-is : table ≡ tableWith (rowsOn body side) 0 (body .count) lent
     table-is = s .table-is ∙ ap (λ o. tableWith (rowsOn body side) (completeFrom o) (body .count) lent) (uncrowded .0)
-
-    kept-is : keep ≡ kept body cost heavier
-    unfolding kept
-    kept-is = uncrowded .1
 
     -- the route of row 0
     no-route : routeOn body side ≡ none → find ≡ 0
@@ -199,23 +193,22 @@ module _ (body : Body) (g : Sound body) (cost : ℕ → ℕ → ℕ) (n : ℕ) (
         let (one, first) = one-route v q in
         let words : answerOf n iterations keep find (getD table 0 noEntry .way) route
         ≡ (
-          Routed iterations (v .0) (boundOf iterations (v .0)) (kept body cost heavier),
+          Routed iterations (v .0) (boundOf iterations (v .0)) (kept body),
           bytesOf (body .count)
               (leftBy body 1 (v .1)) (leftBy body 2 (v .1)) ++ drop (body .count) route,
         ) =
         ap (λ f. answerOf n iterations keep f (getD table 0 noEntry .way) route) one
         ∙ (λ i. (
-          Routed iterations (first i .1 .0) (boundOf iterations (first i .1 .0)) (kept-is i),
+          Routed iterations (first i .1 .0) (boundOf iterations (first i .1 .0)) (uncrowded .1 i),
           bytesOf
               (sym size i) (first i .1 .1 .0) (first i .1 .1 .1) ++ drop (sym size i) route,
         )) in
         ap₂ (λ (y : SweepAnswer × List ℕ) (t : List Entry). outcomeOf (y .0) (y .1) t) words table-is
-        ∙ ap (λ b. outcomeOf (Routed iterations (v .0) (boundOf iterations (v .0)) (kept body cost heavier))
+        ∙ ap (λ b. outcomeOf (Routed iterations (v .0) (boundOf iterations (v .0)) (kept body))
         (b ++ drop (body .count) route) (tableWith (rowsOn body side) 0 (body .count) lent))
         (sym (bytes-words body (g .onward) (v .1) (best-leads body cost heavier v q .0)))
 
-    answered : Made (answerOf n iterations keep find (getD table 0 noEntry .way) route)
-        (highestCrowd body cost (body .count))
+    answered : Made (answerOf n iterations keep find (getD table 0 noEntry .way) route) (crowded body)
     answered = answered-by (routeOn body side) refl ∙ ap (swept body side route lent iterations) (sym (uncrowded .0))
 
 -- ---- the whole sweep, of any bytes
@@ -340,10 +333,6 @@ module _ (form : List ℕ) (ready : Prepared) (is : PreparedOf form ready) (lent
         abbrev cost : ℕ → ℕ → ℕ
         cost = stepCost body
 
-        crowd-is : highestCrowd body cost (body .count) ≡ crowded body cost heavier
-        unfolding crowded
-        crowd-is = refl
-
         short-route : b ≡ 0 → length route < count → Owes (Refused 42 count, route)
         short-route e h = owes (Refused 42 count, route)
             (ap₂ (λ (n : ℕ) (t : List Entry). outcomeOf (Refused 42 n) route t) (sym (s .size)) (rowed .1 e) ∙ rw
@@ -360,10 +349,9 @@ module _ (form : List ℕ) (ready : Prepared) (is : PreparedOf form ready) (lent
 
         module _ (full : b ≡ count) (l : count ≤ length route) (m : 64 * count ≤ length lent) where
           whole : (x : SweepAnswer × List ℕ) → Made body (sound form (s .accepted)) cost count
-              (s .size) route lent table (ready .iterations) x (highestCrowd body cost (body .count)) → Owes x
+              (s .size) route lent table (ready .iterations) x (crowded body) → Owes x
           whole x e = owes x
-              (e ∙ ap (λ o. Answer.swept body (dearest body) route lent (ready .iterations) o) crowd-is
-              ∙ sym (rw (
+              (e ∙ sym (rw (
                 le-ltb (length route) (body .count) (omega (arith, s .size)),
                 le-ltb (length lent)
                     (64 * body .count) (omega (arith, s .size)),

@@ -1,4 +1,4 @@
--- The worked example of document 01: its list, routes, rows, weight, route bytes, walked and kept, by computation.
+-- The worked example of document 01: its list, routes, rows, weights, route bytes, walked and kept, by computation.
 -- Rests on Route, Row, RunWide and form's Conflict.
 use mathlib.Core.Path.{_≡_, refl, ap, _∙_}
 use mathlib.Core.Bool.{Bool, true, false, cond}
@@ -11,17 +11,17 @@ use lib.Dec.{eqb}
 use lib.IntN.{ℤ, pos}
 use mir.Syntax.{w32}
 use mir.Val.{SFits}
-use Rattle.laws.specs.Terms.{heavier, range, setOf}
+use Rattle.laws.specs.Terms.{heavier, lighter, range, setOf}
 use Rattle.form.specs.declared.Body.{Body}
 use Rattle.form.specs.declared.Block.{Block}
 use Rattle.form.specs.declared.Effect.{Effect}
 use Rattle.form.specs.Conflict.{Pair, block, effectsBelow, effectsOf, touches, lastOn, exits, isTest, condition}
 use Rattle.form.specs.Conflict.{contradict, opposes, denies, clean, assigned, crossed, pairsOf, conflicts}
 use Rattle.form.specs.Conflict.{conflictBytes, listed}
-use Rattle.theory.specs.Route.{stepCost, paths, conflict, tails, routes, weight, best, bestRoute, dearest}
-use Rattle.theory.specs.Route.{routeOn, wayOf, routeBytes, beginnings, walked}
-use Rattle.theory.specs.Row.{Entry, bare, openEdges, addKey, keys, rowOf, openTails, leftBy, row, longest, kept}
-use Rattle.theory.specs.Row.{highest, crowded}
+use Rattle.theory.specs.Route.{stepCost, paths, conflict, tails, routes, weight, best, weighed, bestRoute}
+use Rattle.theory.specs.Route.{dearest, cheapest, routeOn, wayOf, routeBytes, beginnings, walked}
+use Rattle.theory.specs.Row.{Entry, bare, openEdges, addKey, keys, rowOf, openSets, openTails, leftBy, row}
+use Rattle.theory.specs.Row.{longest, kept, highest, crowded}
 use Rattle.theory.specs.Run.{State, Does, Iteration}
 use Rattle.theory.specs.Run.Do.{done, does}
 use Rattle.theory.specs.Run.Iteration.{ends, goes}
@@ -96,14 +96,32 @@ unfolding block effectsBelow effectsOf touches lastOn exits isTest condition con
     tails
 routes-are = refl
 
+-- with their weights, and the best of them by any preference
+best-by : (prefers : ℕ → ℕ → Bool) → bestRoute example (stepCost example) prefers
+    ≡ best prefers ((43, (0, 1) ∷ (2, 1) ∷ (3, 2) ∷ (5, 2) ∷ (6, 1) ∷ [])
+    ∷ (42, (0, 2) ∷ (1, 1) ∷ (3, 1) ∷ (4, 1) ∷ (5, 1) ∷ [])
+    ∷ (17, (0, 2) ∷ (1, 1) ∷ (3, 2) ∷ (5, 1) ∷ []) ∷ [])
+unfolding bestRoute weight block
+best-by prefers = ap (λ l. best prefers (map (weighed example (stepCost example)) l)) routes-are
+
+-- the heaviest, and its bytes
 pub best-is : routeOn example (dearest example) ≡ some (43, (0, 1) ∷ (2, 1) ∷ (3, 2) ∷ (5, 2) ∷ (6, 1) ∷ [])
-unfolding bestRoute weight best block
-best-is = ap (λ l. best heavier (map (λ p. (weight (stepCost example) 7 p, p)) l)) routes-are
+unfolding best
+best-is = best-by heavier
 
 pub bytes-are : routeBytes example ((0, 1) ∷ (2, 1) ∷ (3, 2) ∷ (5, 2) ∷ (6, 1) ∷ []) ≡ 1 ∷ 0 ∷ 1 ∷ 2 ∷ 0 ∷ 2 ∷ 1 ∷ 3
     ∷ []
 unfolding routeBytes wayOf
 bytes-are = refl
+
+-- the lightest, and its bytes
+pub least-is : routeOn example (cheapest example) ≡ some (17, (0, 2) ∷ (1, 1) ∷ (3, 2) ∷ (5, 1) ∷ [])
+unfolding best
+least-is = best-by lighter
+
+pub least-bytes-are : routeBytes example ((0, 2) ∷ (1, 1) ∷ (3, 2) ∷ (5, 1) ∷ []) ≡ 2 ∷ 1 ∷ 0 ∷ 2 ∷ 0 ∷ 1 ∷ 0 ∷ 3 ∷ []
+unfolding routeBytes wayOf
+least-bytes-are = refl
 
 pub walked-is : walked example ≡ 13
 unfolding block effectsBelow effectsOf touches lastOn exits isTest condition contradict opposes denies conflict
@@ -131,23 +149,23 @@ unfolding block effectsBelow effectsOf touches lastOn exits isTest condition con
     tails weight best listed bare openEdges addKey keys rowOf openTails leftBy row setOf
 rows-are = refl
 
-four-at-most : longest rowAt 8 ≡ 4
+four-at-most : longest (openSets example pairs) 8 ≡ 4
 unfolding block effectsBelow effectsOf touches lastOn exits isTest condition contradict opposes denies conflict paths
-    tails weight best listed bare openEdges addKey keys rowOf openTails leftBy row setOf longest
+    tails listed bare openEdges addKey keys openSets setOf longest
 four-at-most = refl
 
-pub kept-is : kept example (stepCost example) heavier ≡ 4
+pub kept-is : kept example ≡ 4
 unfolding kept
-kept-is = ap (λ l. longest (row example l (stepCost example) heavier) 8) pairs-are ∙ four-at-most
+kept-is = ap (λ l. longest (openSets example l) 8) pairs-are ∙ four-at-most
 
-none-crowded : highest rowAt 8 ≡ none
+none-crowded : highest (openSets example pairs) 8 ≡ none
 unfolding block effectsBelow effectsOf touches lastOn exits isTest condition contradict opposes denies conflict paths
-    tails weight best listed bare openEdges addKey keys rowOf openTails leftBy row setOf highest
+    tails listed bare openEdges addKey keys openSets setOf highest
 none-crowded = refl
 
-pub crowded-is : crowded example (stepCost example) heavier ≡ none
+pub crowded-is : crowded example ≡ none
 unfolding crowded
-crowded-is = ap (λ l. highest (row example l (stepCost example) heavier) 8) pairs-are ∙ none-crowded
+crowded-is = ap (λ l. highest (openSets example l) 8) pairs-are ∙ none-crowded
 
 -- an iteration that starts with 50 in every variable takes the heaviest route
 abbrev fifty : State

@@ -35,6 +35,7 @@ pub use Rattle.theory.specs.answers.Best
 pub use Rattle.theory.specs.answers.Ties
 pub use Rattle.theory.specs.answers.Words
 pub use Rattle.theory.specs.answers.WalkWords
+pub use Rattle.theory.specs.answers.RowSets
 pub use Rattle.theory.specs.answers.SweepWords
 pub use Rattle.theory.specs.runs.RunWide
 pub use Rattle.theory.specs.runs.Bound

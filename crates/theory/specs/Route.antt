@@ -7,7 +7,7 @@ use mathlib.Core.Option.{Option, none, some}
 use Prim.Native.Nat.{ℕ, zero, suc, _+_, _-_, _*_}
 use lib.Dec.{eqb}
 use lib.ListN.{getD, length}
-use Rattle.laws.specs.Terms.{any, before, each, only, range, heavier}
+use Rattle.laws.specs.Terms.{any, before, each, only, range, heavier, lighter}
 use Rattle.form.specs.declared.Body.{Body}
 use Rattle.form.specs.Conflict.{Edge, block, exits, condition, touches, opposes, denies}
 
@@ -85,6 +85,10 @@ pub record Side : Type 0 where
 -- The dearest iteration: heavier is preferred, and a step costs what it costs.
 abbrev pub dearest : Body → Side
 dearest body = record { prefers = heavier; cost = stepCost body }
+
+-- The cheapest iteration: lighter is preferred.
+abbrev pub cheapest : Body → Side
+cheapest body = record { prefers = lighter; cost = stepCost body }
 
 abbrev pub routeOn : Body → Side → Option (ℕ × Path)
 routeOn body side = bestRoute body (side .cost) (side .prefers)

@@ -1,5 +1,5 @@
--- Rows, after document 01, 'Sweep': a tail's open edges, the row of a block, kept and crowded. Trusted: definitions
--- only. Rests on Route and form's Conflict.
+-- Rows, after document 01, 'Sweep': a tail's open edges, the different sets of them, the row of a block, kept and
+-- crowded. Trusted: definitions only. Rests on Route and form's Conflict.
 use mathlib.Core.Bool.{Bool, not, cond, true, false, _||_, _&&_}
 use mathlib.Core.List.{List, [], _∷_, _++_, map}
 use mathlib.Core.Option.{Option, none, some}
@@ -33,7 +33,7 @@ openEdges body list b p = (
 abbrev pub keyBefore : Key → Key → Bool
 keyBefore = pairb ltb ltb
 
--- ---- rows, over keys in order
+-- ---- different keys, in order
 
 module _ {K : Type 0} where
   -- The tests: the new key is before x, after x.
@@ -47,10 +47,10 @@ module _ {K : Type 0} where
     addKey k [] = k ∷ []
     addKey k (x ∷ r) = placeKey (lt k x) (lt x k) k x r (addKey k r)
 
-    -- The different keys, ascending.
-    unfoldable pub keys : {B : Type 0} → List (K × B) → List K
+    -- The different keys of a list, ascending.
+    unfoldable pub keys : List K → List K
     keys [] = []
-    keys (e ∷ l) = addKey (e .0) (keys l)
+    keys (k ∷ l) = addKey k (keys l)
 
     abbrev pub ofKey : {B : Type 0} → K → List (K × B) → List B
     ofKey k l = map (λ e. e .1) (only (λ e. not (lt (e .0) k || lt k (e .0))) l)
@@ -62,9 +62,13 @@ found k (some v) = (k, v) ∷ []
 -- For each different key, ascending, the first of those of the preferred weight.
 unfoldable pub rowOf : {K B : Type 0} → (K → K → Bool) → (prefers : ℕ → ℕ → Bool) → List (K × (ℕ × B))
     → List (K × (ℕ × B))
-rowOf lt prefers l = each (keys lt l) (λ k. found k (best prefers (ofKey lt k l)))
+rowOf lt prefers l = each (keys lt (map (λ e. e .0) l)) (λ k. found k (best prefers (ofKey lt k l)))
 
 -- ---- the rows of a body
+
+-- The different sets of open edges of the tails of b, ascending: row b has one entry for each.
+unfoldable pub openSets : Body → List Pair → ℕ → List Key
+openSets body list b = keys keyBefore (map (openEdges body list b) (tails body b))
 
 -- Each tail of b with its open edges and its weight.
 unfoldable pub openTails : Body → List Pair → (cost : ℕ → ℕ → ℕ) → ℕ → List (Key × (ℕ × Path))
@@ -102,19 +106,22 @@ noEntry = record { jumps = 0; falls = 0; weight = 0; jumped = 0; fallen = 0 }
 abbrev pub filled : List Entry → List Entry
 filled r = take 64 (r ++ replicate 64 noEntry)
 
+-- ---- how many sets there are, whatever is preferred and whatever a step costs
+
 -- The longest of the rows of the blocks below n.
-unfoldable pub longest : (ℕ → List Entry) → ℕ → ℕ
+unfoldable pub longest : {A : Type 0} → (rows : ℕ → List A) → ℕ → ℕ
 longest rows zero = 0
 longest rows (suc n) = max (length (rows n)) (longest rows n)
 
 -- Kept = the longest row.
-unfoldable pub kept : Body → (cost : ℕ → ℕ → ℕ) → (prefers : ℕ → ℕ → Bool) → ℕ
-kept body cost prefers = longest (row body (conflicts body) cost prefers) (body .count)
+unfoldable pub kept : Body → ℕ
+kept body = longest (openSets body (conflicts body)) (body .count)
 
 -- The highest block below n whose row has more than 64 entries.
-unfoldable pub highest : (ℕ → List Entry) → ℕ → Option ℕ
+unfoldable pub highest : {A : Type 0} → (rows : ℕ → List A) → ℕ → Option ℕ
 highest rows zero = none
 highest rows (suc n) = cond (ltb 64 (length (rows n))) (some n) (highest rows n)
 
-unfoldable pub crowded : Body → (cost : ℕ → ℕ → ℕ) → (prefers : ℕ → ℕ → Bool) → Option ℕ
-crowded body cost prefers = highest (row body (conflicts body) cost prefers) (body .count)
+-- The highest block with more than 64 sets, if there is one.
+unfoldable pub crowded : Body → Option ℕ
+crowded body = highest (openSets body (conflicts body)) (body .count)

@@ -1,5 +1,5 @@
--- Runs, after document 01, 'The two ways': states of i32 values, an iteration, a run and its cost. Trusted: definitions
--- only. RunWide's theorems say how wide they are. Rests on Route and form's Conflict.
+-- Runs, after document 01, 'The two ways': states of i32 values, an iteration, a run, whether it is whole, and its
+-- cost. Trusted: definitions only. RunWide's theorems say how wide they are. Rests on Route and form's Conflict.
 use mathlib.Core.Path.{_≡_}
 use mathlib.Core.Bool.{Bool, true, false}
 use mathlib.Core.List.{List, [], _∷_}
@@ -61,6 +61,12 @@ pub data Run (body : Body) : List (Path × ℕ) → Type 0 where
       → Run body ((p, lastBlock body) ∷ l)
   breaks : {s : State} {p : Path} {last : ℕ} {l : List (Path × ℕ)} → Beginning body 0 s p last → Run body l
       → Run body ((p, last) ∷ l)
+
+-- Whether a run is whole: none of its iterations is left early.
+unfoldable pub whole : {body : Body} {l : List (Path × ℕ)} → Run body l → Bool
+whole rests = true
+whole (repeats i r) = whole r
+whole (breaks i r) = false
 
 -- What the run costs: the costs of the blocks that its iterations enter.
 unfoldable pub runCost : Body → (cost : ℕ → ℕ → ℕ) → List (Path × ℕ) → ℕ

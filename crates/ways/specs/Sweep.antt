@@ -58,7 +58,7 @@ module _ (form : List ℕ) (lent : List ℕ) (table : List Entry) where
   late-high n (inr (inr (inl e))) = omega arith
   late-high n (inr (inr (inr (inl e)))) = omega arith
 
-  pub ended-is : (crowd : Option ℕ) → crowded body (stepCost body) (dearest body .prefers) ≡ crowd
+  pub ended-is : (crowd : Option ℕ) → crowded body ≡ crowd
       → (o : Option (ℕ × Path)) → routeOn body (dearest body) ≡ o → (k : ℕ)
       → sweepOutcome body (dearest body) lent table k
       ≡ ended (ltb (length lent) (body .count)) (ltb (length table) (64 * body .count)) crowd o k
@@ -75,7 +75,7 @@ module _ (form : List ℕ) (lent : List ℕ) (table : List Entry) where
     late = late;
     late-only = λ k. subst (λ (x : Outcome). Mem (x .values .number) (0 ∷ late)) (sym (ended-is _ refl _ refl k))
         (late-only (ltb (length lent) (body .count)) (ltb (length table) (64 * body .count))
-        (crowded body (stepCost body) (dearest body .prefers)) (routeOn body (dearest body)) k);
+        (crowded body) (routeOn body (dearest body)) k);
     late-high = late-high;
   }
 
@@ -118,7 +118,7 @@ module _ (form : List ℕ) (lent : List ℕ) (table : List Entry) where
   sweep-answered x o z =
       let c = no-refusal form sweepCall x o z in
       with-route x (c .count) (c .accepted) (c .is-count) (ltb (length lent) (body .count))
-      (ltb (length table) (64 * body .count)) (crowded body (stepCost body) (dearest body .prefers))
+      (ltb (length table) (64 * body .count)) (crowded body)
       (routeOn body (dearest body)) refl (c .is ∙ ended-is _ refl _ refl (c .count)) z
 
   -- no run of at most count iterations costs more than the bound

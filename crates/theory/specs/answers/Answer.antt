@@ -35,7 +35,7 @@ use Rattle.theory.specs.machines.Passes.{beginnings-lead}
 
 module _ {K : Type 0} (lt : K → K → Bool) (o : Order lt) (k : K) where
   one-key : {B : Type 0} (e : K × B) (l : List (K × B)) → ((x : K × B) → Mem x (e ∷ l) → x .0 ≡ k)
-      → keys lt (e ∷ l) ≡ k ∷ []
+      → keys lt (map (λ x. x .0) (e ∷ l)) ≡ k ∷ []
   unfolding keys addKey
   one-key e [] h = rw (h e (inl refl))
   one-key e (x ∷ l) h = rw (one-key x l (λ y m. h y (inr m)), h e (inl refl), o .irr k)

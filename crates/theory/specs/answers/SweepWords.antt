@@ -1,4 +1,4 @@
--- The sweep on words for pairs in conflict, as the upper layer cites it: Words at Pairwise. Rests on Words and
+-- The sweep on words for pairs in conflict, as the upper layer cites it: Words at Pairwise. Rests on Words, RowSets and
 -- Pairwise.
 use mathlib.Core.Path.{_≡_, sym, ap, _∙_}
 use mathlib.Core.Bool.{Bool, _&&_}
@@ -11,12 +11,13 @@ use Rattle.laws.specs.Orders.{Choice}
 use Rattle.form.specs.declared.Body.{Body}
 use Rattle.form.specs.Conflict.{Edge, Pair, exits, Onward, listed}
 use Rattle.theory.specs.Route.{Path, conflict, tails, bestRoute}
-use Rattle.theory.specs.Row.{Key, keyBefore, bare, openEdges, found, rowOf, openTails, row}
+use Rattle.theory.specs.Row.{Key, keyBefore, bare, openEdges, found, rowOf, openSets, openTails, row}
 use Rattle.theory.specs.machines.Machine.{fill}
 use Rattle.theory.specs.pairs.Edges.{noEdges}
 use Rattle.theory.specs.pairs.Backward.{Listing, stepBack}
 use Rattle.theory.specs.answers.Ways.{tailsBy, bestBy, openTailsBy}
 use Rattle.theory.specs.pairs.Pairwise.{none-open, pairwise}
+use Rattle.theory.specs.answers.RowSets.{keys-sets}
 use Rattle.theory.specs.answers.Words as over
 pub use Rattle.theory.specs.answers.Words.{Words, wordsOf, onWords, entryFrom, wordsFound, growWords}
 pub use Rattle.theory.specs.answers.Words.{betterWords, Fits}
@@ -30,8 +31,14 @@ module _ (body : Body) (list : List Pair) (cost : ℕ → ℕ → ℕ) (prefers 
   unfolding row
   row-words b = sym (map-map entryFrom (onWords body) (rowOf keyBefore prefers (openTails body list cost b)))
 
-  pub row-length : (b : ℕ) → length (row body list cost prefers b) ≡ length (rowWords b)
-  row-length b = ap length (row-words b) ∙ length-map (rowWords b) entryFrom
+  -- it has one entry for each different set of open edges of b's tails, in their order
+  pub words-sets : (b : ℕ) → map (λ e. e .0) (rowWords b) ≡ openSets body list b
+  words-sets b =
+      map-map (λ (e : Key × Words). e .0) (onWords body) (rowOf keyBefore prefers (openTails body list cost b))
+      ∙ keys-sets body list cost prefers b
+
+  pub words-count : (b : ℕ) → length (rowWords b) ≡ length (openSets body list b)
+  words-count b = sym (length-map (rowWords b) (λ e. e .0)) ∙ ap length (words-sets b)
 
   -- row 0 is the first route of the preferred weight, or nothing
   pub row-zero-words : rowWords 0 ≡ found noEdges (wordsFound body (bestRoute body cost prefers))

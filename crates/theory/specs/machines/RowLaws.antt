@@ -10,7 +10,7 @@ use Prim.Native.Nat.{ℕ}
 use Rattle.laws.specs.Terms.{Mem, Sorted, only, each}
 use Rattle.laws.specs.Tests.{split, clash}
 use Rattle.laws.specs.Orders.{Order, Choice, asym, ntrans, pair-order}
-use Rattle.laws.specs.Lists.{each-out, each-in}
+use Rattle.laws.specs.Lists.{each-out, each-in, map-in}
 use Rattle.laws.specs.Rows.{Asc, IsRow, row-unique}
 use Rattle.theory.specs.Route.{choose, best}
 use Rattle.theory.specs.Row.{placeKey, addKey, keys, ofKey, found, rowOf}
@@ -68,15 +68,24 @@ module _ {K : Type 0} (lt : K → K → Bool) (oK : Order lt) where
   add-asc k [] h = (λ y m. absurd m, tt)
   add-asc k (x ∷ r) h = place-asc _ _ k x r (addKey lt k r) refl refl (add-from k r) h (add-asc k r (h .1))
 
-  keys-asc : {B : Type 0} (l : List (K × B)) → Sorted lt (keys lt l)
+  keys-asc : (l : List K) → Sorted lt (keys lt l)
   unfolding keys
   keys-asc [] = tt
-  keys-asc (e ∷ l) = add-asc (e .0) (keys lt l) (keys-asc l)
+  keys-asc (x ∷ l) = add-asc x (keys lt l) (keys-asc l)
 
-  keys-in : {B : Type 0} (l : List (K × B)) (e : K × B) → Mem e l → Mem (e .0) (keys lt l)
+  keys-in : (l : List K) (k : K) → Mem k l → Mem k (keys lt l)
   unfolding keys
-  keys-in {B} (x ∷ l) e (inl p) = add-to (x .0) (keys lt l) (e .0) (inl (ap (λ (z : K × B). z .0) p))
-  keys-in {B} (x ∷ l) e (inr m) = add-to (x .0) (keys lt l) (e .0) (inr (keys-in l e m))
+  keys-in (x ∷ l) k (inl p) = add-to x (keys lt l) k (inl p)
+  keys-in (x ∷ l) k (inr m) = add-to x (keys lt l) k (inr (keys-in l k m))
+
+  pub keys-out : (l : List K) (k : K) → Mem k (keys lt l) → Mem k l
+  unfolding keys
+  keys-out [] k m = absurd m
+  keys-out (x ∷ l) k m = by (add-from x (keys lt l) k m) (keys-out l k)
+    where
+      by : (k ≡ x) ⊎ Mem k (keys lt l) → (Mem k (keys lt l) → Mem k l) → Mem k (x ∷ l)
+      by (inl p) out = inl p
+      by (inr n) out = inr (out n)
 
 -- ---- weights and paths
 
@@ -197,14 +206,17 @@ module _ {K : Type 0} (lt : K → K → Bool) (oK : Order lt) (prefers : ℕ →
   pub row-is : (l : List (K × Val)) → Sorted ahead l → IsRow lt (better prefers) l (rowOf lt prefers l)
   unfolding rowOf
   row-is l s = record {
-    asc = gather-asc (keys lt l) l s (keys-asc lt oK l);
+    asc = gather-asc ks l s (keys-asc lt oK (map (λ e. e .0) l));
     covers = record {
-      from = λ e m. (gather-from (keys lt l) l s e m) .1 .0;
+      from = λ e m. (gather-from ks l s e m) .1 .0;
       best = λ e m.
-          let (d, n, q) = gather-to (keys lt l) l s e m (keys-in lt oK l e m) in
-          (d, n, record { key = q; good = (gather-from (keys lt l) l s d n) .1 .1 e m (sym q) });
+          let (d, n, q) = gather-to ks l s e m (keys-in lt oK (map (λ e. e .0) l) (e .0) (map-in (λ e. e .0) l e m)) in
+          (d, n, record { key = q; good = (gather-from ks l s d n) .1 .1 e m (sym q) });
     };
   }
+    where
+      ks : List K
+      ks = keys lt (map (λ e. e .0) l)
 
   pub row-eq : (l r : List (K × Val)) → Sorted ahead l → IsRow lt (better prefers) l r → r ≡ rowOf lt prefers l
   row-eq l r s h =

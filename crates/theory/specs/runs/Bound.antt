@@ -1,21 +1,24 @@
--- Theorem 5: the route of every iteration has no conflict (`iteration-free`), so it is one of the routes; one that is
--- left early could go on to the end, so it costs no more than some route; and a run of no more iterations than the
--- count costs at most the bound of the count and the heaviest weight (`run-bound`). The same whatever rules paths out,
--- where no iteration takes such a path (`taken-bound`). Rests on RunWide, Steps, Passes, Best and lower_laws.
+-- Theorem 5: the route of every iteration has no conflict (`iteration-free`), so it is one of the routes, and no whole
+-- run costs what is preferred to as many times the best weight (`run-best`). So a whole run of just the count of
+-- iterations costs at least the bound of the count and the lightest weight (`run-least`). An iteration that is left
+-- early could go on to the end, so every run costs no more than some whole one; and a run of no more iterations than
+-- the count costs at most the bound of the count and the heaviest weight (`run-bound`). The same whatever rules paths
+-- out, where no iteration takes such a path (`taken-whole`, `taken-least`, `taken-bound`). Rests on RunWide, Steps,
+-- Passes, Best and lower_laws.
 use mathlib.Core.Path.{_≡_, refl, sym, ap, subst, _∙_}
 use mathlib.Core.Bool.{Bool, true, false, not, cond, _&&_}
-use mathlib.Core.List.{List, _∷_, map}
+use mathlib.Core.List.{List, [], _∷_, map}
 use mathlib.Core.Option.{Option, none, some}
 use Prim.Native.Nat.{ℕ, suc, _+_, _≤_, _<_}
-use native.Mathlib.Nat.{suc-mul, le-trans, mul-le-mul-right}
+use native.Mathlib.Nat.{zero-mul, suc-mul, add-comm, le-trans, mul-le-mul-right}
 use native.Mathlib.Omega.{arith}
 use borrow.Author.Tests.{eqb-true, ltb-false}
 use lib.Dec.{eqb}
 use lib.IntN.{ℤ}
 use lib.ListN.{length}
-use Rattle.laws.specs.Terms.{Mem, heavier}
+use Rattle.laws.specs.Terms.{Mem, heavier, lighter}
 use Rattle.laws.specs.Tests.{clash, and-out, or-out, is-false, not-out, or-none}
-use Rattle.laws.specs.Orders.{Choice, heaviest}
+use Rattle.laws.specs.Orders.{Choice, sum-unpreferred, heaviest, lightest}
 use Rattle.laws.specs.Lists.{map-in, only-in}
 use Rattle.form.specs.declared.Body.{Body}
 use Rattle.form.specs.declared.Effect.{Effect}
@@ -26,7 +29,7 @@ use Rattle.lower_laws.specs.Relations.{opposite-is}
 use Rattle.lower_laws.specs.Conditions.{contradict-says}
 use Rattle.theory.specs.Route.{Path, lastBlock, paths, conflict, tails, routes, weight, weighed, bestRoute}
 use Rattle.theory.specs.Route.{boundOf}
-use Rattle.theory.specs.Run.{State, Does, Do, holdsAt, Leaves, Iteration, Beginning, Run, runCost}
+use Rattle.theory.specs.Run.{State, Does, Do, holdsAt, Leaves, Iteration, Beginning, Run, whole, runCost}
 use Rattle.theory.specs.Run.Do.{done, does}
 use Rattle.theory.specs.Run.Iteration.{ends, goes}
 use Rattle.theory.specs.Run.Beginning.{stops, passes}
@@ -183,10 +186,27 @@ module _ (body : Body) (g : Sound body) where
         let (q, t, i, w) = extended r (g .onward .inside b o (l .exit)) in
         ((b, o .0) ∷ q, t, goes o d l i, omega arith)
 
+    -- so every run costs no more than some whole one of as many iterations
+    completed : {l : List (Path × ℕ)} → Run body l
+        → (m : List (Path × ℕ)) × (r : Run body m) × (whole r ≡ true) × (length m ≡ length l)
+        × (runCost body cost l ≤ runCost body cost m)
+    unfolding whole runCost
+    completed rests = ([], rests, refl, refl, omega arith)
+    completed (repeats {p = p} i r) =
+        let (m, s, w, n, c) = completed r in
+        ((p, lastBlock body) ∷ m, repeats i s, w, ap suc n, omega arith)
+    completed (breaks i r) =
+        let (q, t, j, d) = extended i (g .some) in
+        let (m, s, w, n, c) = completed r in
+        ((q, lastBlock body) ∷ m, repeats j s, w, ap suc n, omega arith)
+
 -- ---- runs, whatever rules paths out, if no iteration takes such a path
 
 pub record NeverTaken (body : Body) (ruledOut : Path → Bool) : Type 0 where
   pub free : {s t : State} {p : Path} → Iteration body 0 s p t → ruledOut p ≡ false
+
+one-more : (n m : ℕ) → boundOf (suc n) m ≡ m + boundOf n m
+one-more n m = suc-mul n m ∙ add-comm (boundOf n m) m
 
 module _ (body : Body) (g : Sound body) (ruledOut : Path → Bool) (never : NeverTaken body ruledOut) where
   -- an iteration's path is a route
@@ -206,27 +226,34 @@ module _ (body : Body) (g : Sound body) (ruledOut : Path → Bool) (never : Neve
         best-most prefers ch (map (weighed body cost) (tailsBy body ruledOut 0)) v h (weighed body cost p)
         (map-in (weighed body cost) (tailsBy body ruledOut 0) p (taken-route i))
 
-    module _ (least : (b way : ℕ) → cost b 0 ≤ cost b way) (v : ℕ × Path)
-        (h : bestBy body ruledOut cost heavier ≡ some v) where
-      at-most : {s t : State} {p : Path} → Iteration body 0 s p t → weight cost (lastBlock body) p ≤ v .0
-      at-most {p = p} i = ltb-false (v .0) (weight cost (lastBlock body) p) (taken-best heavier heaviest i v h)
+    -- nor what a whole run costs to as many times the best weight
+    pub taken-whole : (prefers : ℕ → ℕ → Bool) → Choice prefers → (v : ℕ × Path)
+        → bestBy body ruledOut cost prefers ≡ some v → {l : List (Path × ℕ)} (r : Run body l) → whole r ≡ true
+        → prefers (runCost body cost l) (boundOf (length l) (v .0)) ≡ false
+    unfolding whole runCost
+    taken-whole prefers ch v h rests w = ap (prefers 0) (zero-mul (v .0)) ∙ ch .order .irr 0
+    taken-whole prefers ch v h (repeats {p = p} {l = l} i r) w =
+        ap (prefers (weight cost (lastBlock body) p + runCost body cost l)) (one-more (length l) (v .0))
+        ∙ sum-unpreferred ch (weight cost (lastBlock body) p) (v .0) (runCost body cost l) (boundOf (length l) (v .0))
+        (taken-best prefers ch i v h) (taken-whole prefers ch v h r w)
+    taken-whole prefers ch v h (breaks i r) w = clash w refl
 
-      one-more : (a c n m : ℕ) → a ≤ m → c ≤ boundOf n m → a + c ≤ boundOf (suc n) m
-      one-more a c n m p q = rw (suc-mul n m) (omega arith)
+    -- a whole run of just the count of iterations costs at least the bound of the count and the lightest weight
+    pub taken-least : (v : ℕ × Path) → bestBy body ruledOut cost lighter ≡ some v → (count : ℕ)
+        → {l : List (Path × ℕ)} (r : Run body l) → whole r ≡ true → length l ≡ count
+        → boundOf count (v .0) ≤ runCost body cost l
+    taken-least v h count {l} r w n =
+        rw (← n) (ltb-false (runCost body cost l) (boundOf (length l) (v .0)) (taken-whole lighter lightest v h r w))
 
-      run-cost : {l : List (Path × ℕ)} → Run body l → runCost body cost l ≤ boundOf (length l) (v .0)
-      unfolding runCost
-      run-cost rests = omega arith
-      run-cost (repeats {p = p} {l = l} i r) =
-          one-more (weight cost (lastBlock body) p) (runCost body cost l) (length l) (v .0) (at-most i) (run-cost r)
-      run-cost (breaks {p = p} {last = last} {l = l} i r) =
-          let (q, t, j, w) = extended body g cost least i (g .some) in
-          one-more (weight cost last p) (runCost body cost l) (length l) (v .0) (le-trans w (at-most j)) (run-cost r)
-
-      -- a run of no more iterations than the count costs at most the bound of the count and the heaviest weight
-      pub taken-bound : (count : ℕ) → {l : List (Path × ℕ)} → Run body l → length l ≤ count
-          → runCost body cost l ≤ boundOf count (v .0)
-      taken-bound count {l} r n = le-trans (run-cost r) (mul-le-mul-right (v .0) n)
+    -- a run of no more iterations than the count costs at most the bound of the count and the heaviest weight
+    pub taken-bound : ((b way : ℕ) → cost b 0 ≤ cost b way) → (v : ℕ × Path)
+        → bestBy body ruledOut cost heavier ≡ some v → (count : ℕ) → {l : List (Path × ℕ)} → Run body l
+        → length l ≤ count → runCost body cost l ≤ boundOf count (v .0)
+    taken-bound least v h count r n =
+        let (m, s, w, e, c) = completed body g cost least r in
+        le-trans c (le-trans
+        (ltb-false (boundOf (length m) (v .0)) (runCost body cost m) (taken-whole heavier heaviest v h s w))
+        (mul-le-mul-right (v .0) (omega arith)))
 
 -- ---- and for pairs in conflict
 
@@ -244,6 +271,17 @@ module _ (body : Body) (g : Sound body) where
         → prefers (weight cost (lastBlock body) p) (v .0) ≡ false
     unfolding bestRoute bestBy tails tailsBy
     iteration-best = taken-best body g (conflict body) never-taken cost
+
+    pub run-best : (prefers : ℕ → ℕ → Bool) → Choice prefers → (v : ℕ × Path) → bestRoute body cost prefers ≡ some v
+        → {l : List (Path × ℕ)} (r : Run body l) → whole r ≡ true
+        → prefers (runCost body cost l) (boundOf (length l) (v .0)) ≡ false
+    unfolding bestRoute bestBy tails tailsBy
+    run-best = taken-whole body g (conflict body) never-taken cost
+
+    pub run-least : (v : ℕ × Path) → bestRoute body cost lighter ≡ some v → (count : ℕ) → {l : List (Path × ℕ)}
+        (r : Run body l) → whole r ≡ true → length l ≡ count → boundOf count (v .0) ≤ runCost body cost l
+    unfolding bestRoute bestBy tails tailsBy
+    run-least = taken-least body g (conflict body) never-taken cost
 
     pub run-bound : ((b way : ℕ) → cost b 0 ≤ cost b way) → (v : ℕ × Path) → bestRoute body cost heavier ≡ some v
         → (count : ℕ) → {l : List (Path × ℕ)} → Run body l → length l ≤ count

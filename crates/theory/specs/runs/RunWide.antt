@@ -1,6 +1,7 @@
 -- Runs are as wide as document 01 says: 'A run starts with any i32 values; unknown effects give any i32; open branches
 -- go either way. Variables pass to the next iteration as left, or changed from outside.' What Run allows, as theorems:
--- a run that allowed less would refute one of them. Rests on Run.
+-- a run that allowed less would refute one of them. And what a whole run is (`whole-says`): iterations to the end, each
+-- from any state (`any-whole`). Rests on Run.
 use mathlib.Core.Path.{_≡_, refl, sym, ap, subst, _∙_}
 use mathlib.Core.Logic.{_↔_, _⊎_, inl, inr}
 use mathlib.Core.Bool.{Bool, true, false, cond, _||_}
@@ -11,17 +12,18 @@ use native.Mathlib.Omega.{arith}
 use borrow.Author.Tests.{eqb-true, eqb-false, ne-eqb}
 use lib.Dec.{eqb}
 use lib.IntN.{ℤ}
+use lib.ListN.{length}
 use mir.Syntax.{w32}
 use mir.Val.{SFits}
 use Rattle.laws.specs.Terms.{Mem, anyOf}
-use Rattle.laws.specs.Tests.{split, or-no, eqb-same}
+use Rattle.laws.specs.Tests.{split, clash, or-no, eqb-same}
 use Rattle.laws.specs.Sets.{below-or-not}
 use Rattle.lower_laws.specs.Endings.{by-ending}
 use Rattle.form.specs.declared.Body.{Body}
 use Rattle.form.specs.declared.Effect.{Effect}
 use Rattle.form.specs.Conflict.{block, effectsOf, exitsBy, exits, later, lastOn, Sound}
 use Rattle.theory.specs.Route.{Path, lastBlock, weight}
-use Rattle.theory.specs.Run.{State, Does, Do, holdsAt, Leaves, Iteration, Beginning, Run, runCost}
+use Rattle.theory.specs.Run.{State, Does, Do, holdsAt, Leaves, Iteration, Beginning, Run, whole, runCost}
 use Rattle.theory.specs.Run.Do.{done, does}
 use Rattle.theory.specs.Run.Iteration.{ends, goes}
 use Rattle.theory.specs.Run.Beginning.{stops, passes}
@@ -298,3 +300,46 @@ module _ (body : Body) where
 pub any-next : (body : Body) → Sound body → {l : List (Path × ℕ)} → Run body l → (s : State)
     → (p : Path) × (t : State) × Iteration body 0 s p t × Run body ((p, lastBlock body) ∷ l)
 any-next body g r s = let (p, t, i) = any-start body g s in (p, t, i, whole-next body r i)
+
+-- ---- whole runs: none of their iterations is left early
+
+module _ (body : Body) where
+  -- each path is that of an iteration from its own start to the end
+  abbrev pub AllToTheEnd : List State → List (Path × ℕ) → Type 0
+  AllToTheEnd [] [] = Unit {0}
+  AllToTheEnd [] (x ∷ l) = ⊥
+  AllToTheEnd (s ∷ starts) [] = ⊥
+  AllToTheEnd (s ∷ starts) (x ∷ l) =
+      ((t : State) × Iteration body 0 s (x .0) t) × (x .1 ≡ lastBlock body) × AllToTheEnd starts l
+
+  whole-of : (starts : List State) (l : List (Path × ℕ)) → AllToTheEnd starts l → (r : Run body l) × (whole r ≡ true)
+  unfolding whole
+  whole-of [] [] e = (rests, refl)
+  whole-of (s ∷ starts) (x ∷ l) ((t, i), last, e) =
+      let (r, w) = whole-of starts l e in
+      subst (λ (b : ℕ). (r : Run body ((x .0, b) ∷ l)) × (whole r ≡ true)) (sym last) (repeats i r, w)
+
+  all-of : {l : List (Path × ℕ)} (r : Run body l) → whole r ≡ true → (starts : List State) × AllToTheEnd starts l
+  unfolding whole
+  all-of rests w = ([], tt)
+  all-of (repeats {s = s} {t = t} i r) w = let (starts, e) = all-of r w in (s ∷ starts, ((t, i), refl, e))
+  all-of (breaks i r) w = clash w refl
+
+  -- the paths of whole runs are just these
+  pub whole-says : (l : List (Path × ℕ))
+      → ((r : Run body l) × (whole r ≡ true)) ↔ ((starts : List State) × AllToTheEnd starts l)
+  whole-says l = (λ r. all-of (r .0) (r .1), λ e. whole-of (e .0) l (e .1))
+
+-- so from every list of states, one for each iteration, there is a whole run of that many
+pub any-whole : (body : Body) → Sound body → (starts : List State)
+    → (l : List (Path × ℕ)) × (length l ≡ length starts) × AllToTheEnd body starts l
+    × ((r : Run body l) × (whole r ≡ true))
+any-whole body g starts = let (l, n, e) = each-start starts in (l, n, e, whole-says body l .1 (starts, e))
+  where
+    each-start : (starts : List State)
+        → (l : List (Path × ℕ)) × (length l ≡ length starts) × AllToTheEnd body starts l
+    each-start [] = ([], refl, tt)
+    each-start (s ∷ starts) =
+        let (p, t, i) = any-start body g s in
+        let (l, n, e) = each-start starts in
+        ((p, lastBlock body) ∷ l, ap suc n, ((t, i), refl, e))
