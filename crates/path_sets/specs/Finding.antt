@@ -1,27 +1,26 @@
--- From what the functions' words and lists say of one another to what they say of the body: what is found is as
--- defined (`found-is`), and what it tells bit by bit (`found-told`). Rests on Parts, on sets' Local and Found and on
--- lower_laws' Joined.
+-- From what the functions' words and lists say of one another to what they say of the body: the sets and all that is
+-- found are as defined (`sets-are`, `found-are`), and what that tells bit by bit (`found-told`). Rests on Parts, on
+-- sets' Local and Found and on lower_laws' Joined.
 use mathlib.Core.Path.{_≡_, refl, sym, ap, subst, _∙_}
 use mathlib.Core.Logic.{_⊎_, inl, inr}
-use mathlib.Core.Bool.{Bool, true, false, not, _&&_, _||_, or-comm}
+use mathlib.Core.Bool.{Bool, true, false, not, _&&_, _||_}
 use mathlib.Core.List.{List}
 use Prim.Native.Nat.{ℕ, _≤_, _<_}
 use native.Mathlib.Omega.{arith}
 use lib.Dec.{eqb}
-use lib.ListN.{length, getD}
-use Rattle.laws.specs.Terms.{bit, any, anyOf, setOf}
+use lib.ListN.{getD}
+use Rattle.laws.specs.Terms.{bit, any, anyOf}
 use Rattle.laws.specs.Tests.{split, any-same, any-none}
 use Rattle.laws.specs.Sets.{bit-none, below-or-not}
 use Rattle.words.specs.Tabled.{tabled, rows}
-use Rattle.words.specs.Filled.{Told, told-as, told-rows, rows-bit, rows-told, set-bits, tabled-at, tabled-length}
+use Rattle.words.specs.Filled.{Told, told-as, told-rows, rows-bit, rows-told, tabled-at, tabled-length}
 use Rattle.form.specs.declared.Body.{Body}
-use Rattle.form.specs.declared.Block.{Block}
-use Rattle.form.specs.Conflict.{Edge, noBlock, block, touches, exitsBy, exits, wayTo, isTest, condition, opposes}
+use Rattle.form.specs.Conflict.{Edge, noBlock, block, touches, exits, wayTo, isTest, condition, opposes}
 use Rattle.form.specs.Conflict.{denies, Sound, clean, assigned, crossed, listed, conflicts}
 use Rattle.lower_laws.specs.Blocks.{beyond}
 use Rattle.lower_laws.specs.Listed.{Way}
 use Rattle.lower_laws.specs.Joined.{past-count, no-test, denies-none, denies-test, opposes-first, opposes-test}
-use Rattle.lower_laws.specs.Joined.{opposes-swap, assigned-none, byWay, way-none, paired, test-real, clean-top}
+use Rattle.lower_laws.specs.Joined.{assigned-none, byWay, way-none, paired, paired-none, test-real, clean-top}
 use Rattle.lower_laws.specs.Joined.{clean-step, some-way, listed-way, listed-none}
 use Rattle.sets.specs.declared.Local.{Local}
 use Rattle.sets.specs.declared.Edges.{Edges}
@@ -30,8 +29,9 @@ use Rattle.sets.specs.declared.Sets.{Sets}
 use Rattle.sets.specs.declared.Found.{Found}
 use Rattle.sets.specs.Local.{localOf}
 use Rattle.sets.specs.Found.{setsOf, firstsOf, foundOf}
-use Rattle.path_sets.specs.Parts.{EitherAt, ListedAt, Paths, AssignedAt, LedAt, OnTest, FirstsOf, ListedBy}
-use Rattle.path_sets.specs.Parts.{Bits, FirstsBy, FoundBy}
+use Rattle.path_sets.specs.declared.Leads.{Leads}
+use Rattle.path_sets.specs.Parts.{Paths, ByPaths, led, LeadsOf, pairs, ListedAt, FirstsOf}
+use Rattle.path_sets.specs.Parts.{FirstsBy, FoundBy}
 
 module _ (body : Body) (few : body .count ≤ 64) where
   -- ---- past the blocks nothing is in a set
@@ -95,193 +95,163 @@ module _ (body : Body) (sound : Sound body) where
   abbrev opposing : (one two : ℕ) → ℕ → ℕ → Bool
   opposing one two b k = opposes body (b, one) (k, two)
 
-  target-all : (way b : ℕ) → getD (targets way) b 64 ≡ wayTo way (exits body b)
-  unfolding exits
-  target-all way b = go (below-or-not b 64)
+  target-is : (way b : ℕ) → b < 64 → getD (targets way) b 64 ≡ wayTo way (exits body b)
+  target-is way b h = tabled-at (λ b. wayTo way (exits body b)) 64 b 64 h
+
+  -- what the rows of f have at block j together with another list: nothing past the blocks
+  masked : (f : ℕ → ℕ → Bool) (l : List ℕ) (j s : ℕ) (t : Bool) → ((b k : ℕ) → 64 ≤ k → f b k ≡ false)
+      → (64 ≤ j → t ≡ false) → (j < 64 → (f j s && bit (getD l j 0) s) ≡ t)
+      → (bit (getD (rows f) j 0) s && bit (getD l j 0) s) ≡ t
+  masked f l j s t none past in-row = go (below-or-not j 64)
     where
-      go : (b < 64) ⊎ (64 ≤ b) → getD (targets way) b 64 ≡ wayTo way (exits body b)
-      go (inl h) = tabled-at (λ b. wayTo way (exits body b)) 64 b 64 h
-      go (inr h) =
-          beyond (targets way) b 64 (omega (arith, tabled-length (λ b. wayTo way (exits body b)) 64))
-          ∙ sym (ap (λ (k : Block). wayTo way (exitsBy (k .ending) (k .jump) (k .fall))) (none-past body few b h))
-
-  denied-bit : (way j s : ℕ) → bit (getD (rows (denying way)) j 0) s ≡ denies body j (s, way)
-  denied-bit way j s = go (below-or-not j 64)
-    where
-      told : Told 0 (Bits (denying way)) 64 64 (rows (denying way))
-      told = rows-told (denying way) (λ b k h. denies-test body b (k, way) (off body few k h))
-
-      go : (j < 64) ⊎ (64 ≤ j) → bit (getD (rows (denying way)) j 0) s ≡ denies body j (s, way)
-      go (inl h) = told .at j h s
-      go (inr h) =
-          ap (λ x. bit x s) (beyond (rows (denying way)) j 0 (omega (arith, told .size))) ∙ bit-none s
-          ∙ sym (denies-none body j (s, way) (none-past body few j h))
-
-  opposed-bit : (one two s j : ℕ) → s < 64 → bit (getD (rows (opposing one two)) s 0) j ≡ opposes body (s, one) (j, two)
-  opposed-bit one two s j h = rows-bit (opposing one two)
-      (λ b k l. opposes-test body (b, one) (k, two) (off body few k l)) s h j
+      go : (j < 64) ⊎ (64 ≤ j) → (bit (getD (rows f) j 0) s && bit (getD l j 0) s) ≡ t
+      go (inl h) = ap (λ (a : Bool). a && bit (getD l j 0) s) (rows-bit f none j h s) ∙ in-row h
+      go (inr h) = ap (λ x. bit x s && bit (getD l j 0) s)
+          (beyond (rows f) j 0 (omega (arith, rows-told f none .size))) ∙ rw (bit-none s) (sym (past h))
 
   -- ---- clean paths
   abbrev leading : ℕ → ℕ → Bool
   leading s b = clean body (block body s .variable) (body .count) b s
 
-  paths-of : (s : ℕ) → s < 64 → isTest body s ≡ true → Paths (targets 1) (targets 2) (rows touching) s (leading s)
-  paths-of s h e =
+  paths-of : (s : ℕ) → isTest body s ≡ true → Paths (targets 1) (targets 2) (rows touching) s (leading s)
+  paths-of s e =
       let real = test-real body s e in
       record {
-        step = λ b low.
+        step = λ b h.
             clean-step body (sound .onward) (block body s .variable) s real few b
-            ∙ (λ i. not (sym (touched b (inner b low)) i) &&
-            (eqb b s || (leading s (sym (target-all 1 b) i) || leading s (sym (target-all 2 b) i))));
-        top = λ b l. clean-top body (sound .onward) (block body s .variable) s real b l;
+            ∙ (λ i. not (sym (touched b h) i) &&
+            (eqb b s || (leading s (sym (target-is 1 b h) i) || leading s (sym (target-is 2 b h) i))));
+        top = λ b h. clean-top body (sound .onward) (block body s .variable) s real b (omega arith);
       }
     where
-      inner : (b : ℕ) → b ≤ s → b < 64
-      inner b low = omega arith
-
       touched : (b : ℕ) → b < 64 → bit (getD (rows touching) b 0) s ≡ touches body b (block body s .variable)
-      touched b l = rows-bit touching (λ b k m. rw (off body few k m)) b l s
+      touched b h = rows-bit touching (λ b k m. rw (off body few k m)) b h s
           ∙ ap (λ a. a && touches body b (block body s .variable)) e
 
   -- ---- the firsts of the edges by one way
-  module _ (way : ℕ) where
+  module _ (l : Leads) (leads : LeadsOf (targets 1) (targets 2) (rows touching) l) (way : ℕ) where
     on : (s : ℕ) → condition body (s, way) .variable ≡ block body s .variable
     unfolding condition
     on s = refl
 
-    -- where s is a test by the paths to it; else nothing
-    by-test : (s x : ℕ) (P : ℕ → ℕ → Type 0) (f : ℕ → Bool) → OnTest (setOf 64 (isTest body)) P s x
-        → (isTest body s ≡ true → P s x → (j : ℕ) → bit x j ≡ f j) → (isTest body s ≡ false → (j : ℕ) → f j ≡ false)
-        → (j : ℕ) → bit x j ≡ f j
-    by-test s x P f p here else = split (isTest body s) (λ e. here e (p .on (tests-bit ∙ e)))
-        (λ e j. p .off (tests-bit ∙ e) j ∙ sym (else e j))
-      where
-        tests-bit : bit (setOf 64 (isTest body)) s ≡ isTest body s
-        tests-bit = set-bits (isTest body) (off body few) s
-
-    assigned-row : (l : List ℕ) → Told 0 (OnTest (setOf 64 (isTest body))
-        (AssignedAt (targets 1) (targets 2) (rows touching) (rows (denying way)))) 64 64 l
-        → Told 0 (Bits (λ s j. assigned body j (s, way))) 64 64 l
+    assigned-bit : (j s : ℕ) → (bit (getD (rows (denying way)) j 0) s && bit (getD (l .ahead) j 0) s)
+        ≡ assigned body j (s, way)
     unfolding assigned
-    assigned-row l told = told-as 0 _ 64 _ l told
-        (λ s x h p. by-test s x (AssignedAt (targets 1) (targets 2) (rows touching) (rows (denying way)))
-        (λ j. assigned body j (s, way)) p
-        (λ e q j.
-        q (leading s) (paths-of s h e) j
-        ∙ ap (λ a. a && ((leading s (getD (targets 1) j 64) || leading s (getD (targets 2) j 64)) || eqb j s))
-        (denied-bit way j s)
-        ∙ ap (λ a. denies body j (s, way) && a)
-        ((λ i. (leading s (target-all 1 j i) || leading s (target-all 2 j i)) || eqb j s)
-        ∙ ap (λ a. a || eqb j s) (sym
+    assigned-bit j s = masked (denying way) (l .ahead) j s (assigned body j (s, way))
+        (λ b k h. denies-test body b (k, way) (off body few k h)) (assigned-off body few j (s, way))
+        (λ h. split (isTest body s)
+        (λ e. ap (λ a. denies body j (s, way) && a)
+        (leads .aheads .at j h s (leading s) (paths-of s e)
+        ∙ (λ i. eqb j s || (leading s (target-is 1 j h i) || leading s (target-is 2 j h i)))
+        ∙ ap (λ a. eqb j s || a) (sym
         (some-way body (sound .onward) (block body s .variable) s (test-real body s e) few j))
-        ∙ or-comm (anyOf (λ o. leading s (o .1)) (exits body j)) (eqb j s)
         ∙ (λ i. eqb j s || anyOf (λ o. clean body (sym (on s) i) (body .count) (o .1) s) (exits body j))))
-        (λ e j. let d = denies-test body j (s, way) e in rw d))
+        (λ e. let d = denies-test body j (s, way) e in rw d))
 
     -- by the firsts' edges, each way of theirs
-    led-row : (to : ℕ) (l : List ℕ)
-        → Told 0 (OnTest (setOf 64 (isTest body))
-        (LedAt (targets 1) (targets 2) (rows touching) (rows (opposing way to)) (targets to))) 64 64 l
-        → Told 0 (Bits (λ s j. byWay body to j (s, way))) 64 64 l
+    way-bit : (to : ℕ) (m : List ℕ)
+        → Told 0 (ByPaths (targets 1) (targets 2) (rows touching) (led (targets to))) 64 64 m
+        → (j s : ℕ) → (bit (getD (rows (opposing to way)) j 0) s && bit (getD m j 0) s) ≡ byWay body to j (s, way)
     unfolding byWay crossed
-    led-row to l told = told-as 0 _ 64 _ l told
-        (λ s x h p. by-test s x (LedAt (targets 1) (targets 2) (rows touching) (rows (opposing way to)) (targets to))
-        (λ j. byWay body to j (s, way)) p
-        (λ e q j.
-        q (leading s) (paths-of s h e) j
-        ∙ ap (λ a. a && leading s (getD (targets to) j 64))
-        (opposed-bit way to s j h ∙ opposes-swap body (s, way) (j, to))
-        ∙ ap (λ a. opposes body (j, to) (s, way) && a)
-        (λ i. clean body (sym (on s) i) (body .count) (target-all to j i) s))
-        (λ e j. let d = opposes-test body (j, to) (s, way) e in rw d))
+    way-bit to m told j s = masked (opposing to way) m j s (byWay body to j (s, way))
+        (λ b k h. opposes-test body (b, to) (k, way) (off body few k h)) (way-off body few to j (s, way))
+        (λ h. split (isTest body s)
+        (λ e. ap (λ a. opposes body (j, to) (s, way) && a)
+        (told .at j h s (leading s) (paths-of s e)
+        ∙ (λ i. clean body (sym (on s) i) (body .count) (target-is to j h i) s)))
+        (λ e. let d = opposes-test body (j, to) (s, way) e in rw d))
 
-    firsts-by : (p : Firsts) → FirstsOf (setOf 64 (isTest body)) (targets 1) (targets 2) (rows touching) (rows
-        (denying way)) (rows (opposing way 1)) (rows (opposing way 2)) p → FirstsBy body way p
+    firsts-by : (p : Firsts)
+        → FirstsOf l (rows (denying way)) (rows (opposing 1 way)) (rows (opposing 2 way)) p → FirstsBy body way p
     firsts-by p f = record {
-      assigned = assigned-row (p .assigned) (f .assigned);
-      jumps = led-row 1 (p .jump)
-          (f .jumps);
-      falls = led-row 2 (p .fall) (f .falls);
+      assigned = told-as 0 _ 64 _ (p .assigned) (f .assigned) (λ s x h q j. q j ∙ assigned-bit j s);
+      jumps = told-as 0 _ 64 _ (p .jump) (f .jumps) (λ s x h q j. q j ∙ way-bit 1 (l .jump) (leads .jumps) j s);
+      falls = told-as 0 _ 64 _ (p .fall) (f .falls) (λ s x h q j. q j ∙ way-bit 2 (l .fall) (leads .falls) j s);
     }
 
     -- ---- the edges with a first below a block
-    module _ (p : Firsts) (firsts : FirstsBy body way p) (is-way : Way way)
-        (all m : List ℕ) (each : Told 0 (EitherAt (p .assigned) (p .jump) (p .fall)) 64 64 all)
-        (told : Told 0 (ListedAt all) 64 64 m) where
-      first-bit : (s : ℕ) → s < 64 → (f : ℕ) → bit (getD all s 0) f ≡ paired body f (s, way)
-      unfolding paired
-      first-bit s h f = each .at s h f
-          ∙ (λ i. firsts .assigned .at s h f i || (firsts .jumps .at s h f i || firsts .falls .at s h f i))
+    pair-bit : (f s : ℕ) → pairs l (rows (denying way)) (rows (opposing 1 way)) (rows (opposing 2 way)) f s
+        ≡ paired body f (s, way)
+    unfolding paired
+    pair-bit f s = λ i. assigned-bit f s i
+        || (way-bit 1 (l .jump) (leads .jumps) f s i || way-bit 2 (l .fall) (leads .falls) f s i)
 
-      listed-off : (b s : ℕ) → 64 ≤ s → listed (conflicts body) b (s, way) ≡ false
-      listed-off b s h = listed-none body few b (s, way) (off body few s h)
+    listed-off : (b s : ℕ) → 64 ≤ s → listed (conflicts body) b (s, way) ≡ false
+    listed-off b s h = listed-none body few b (s, way) (off body few s h)
 
-      listed-row : Told 0 (Bits (λ b k. listed (conflicts body) b (k, way))) 64 64 m
-      listed-row = told-as 0 _ 64 _ m told (λ b x h q k. q k ∙ go b h k (below-or-not k 64))
-        where
-          go : (b : ℕ) → b < 64 → (k : ℕ) → (k < 64) ⊎ (64 ≤ k)
-              → any b (λ f. bit (getD all k 0) f) ≡ listed (conflicts body) b (k, way)
-          go b h k (inl g) = any-same b _ _ (first-bit k g) ∙ listed-way body few b k way is-way (omega arith) g
-          go b h k (inr g) = any-same b _ (λ f. false)
-              (λ f. ap (λ x. bit x f) (beyond all k 0 (omega (arith, each .size))) ∙ bit-none f) ∙ any-none b
-              ∙ sym (listed-off b k g)
+    listed-is : Way way → (m : List ℕ)
+        → Told 0 (ListedAt l (rows (denying way)) (rows (opposing 1 way)) (rows (opposing 2 way))) 64 64 m
+        → m ≡ rows (λ b k. listed (conflicts body) b (k, way))
+    listed-is is-way m told = told-rows (λ b k. listed (conflicts body) b (k, way)) listed-off m
+        (told-as 0 _ 64 _ m told
+        (λ b x h q k. q k ∙ any-same b _ _ (λ f. pair-bit f k) ∙ go b h k (below-or-not k 64)))
+      where
+        go : (b : ℕ) → b < 64 → (k : ℕ) → (k < 64) ⊎ (64 ≤ k)
+            → any b (λ f. paired body f (k, way)) ≡ listed (conflicts body) b (k, way)
+        go b h k (inl g) = listed-way body few b k way is-way (omega arith) g
+        go b h k (inr g) = any-same b _ (λ f. false) (λ f. paired-none body f (k, way) (off body few k g))
+            ∙ any-none b ∙ sym (listed-off b k g)
 
-      listed-is : m ≡ rows (λ b k. listed (conflicts body) b (k, way))
-      listed-is = told-rows (λ b k. listed (conflicts body) b (k, way)) (λ b k h. listed-off b k h) m listed-row
-
-  -- ---- all of it
-  abbrev foundWith : Local → (jumped fallen : Firsts) → Edges → Found
-  foundWith own jumped fallen x = record {
-    sets =
-        record {
-          targets = own .targets;
-          touched = own .touched;
-          denied = own .denied;
-          jumping = own .jumping;
-          falling = own .falling;
-          listed = x;
-        };
-    variable = own .variable;
-    jumped = jumped;
-    fallen = fallen;
+  -- ---- all of it, from what the blocks say by themselves
+  abbrev setsWith : Local → Edges → Sets
+  setsWith own x = record {
+    targets = own .targets;
+    touched = own .touched;
+    denied = own .denied;
+    jumping = own .jumping;
+    falling = own .falling;
+    listed = x;
   }
 
-  -- the firsts of the edges by jump, and by fall, from the words
-  abbrev Jumped : Local → Firsts → Type 0
-  Jumped own p = FirstsOf (own .tests) (own .targets .jump) (own .targets .fall) (own .touched) (own .denied .jump)
-      (own .jumping .jump) (own .jumping .fall) p
+  -- the lists of clean paths, of the edges with a first below each block, and of the firsts, as the functions say
+  abbrev Led : Local → Leads → Type 0
+  Led own l = LeadsOf (own .targets .jump) (own .targets .fall) (own .touched) l
 
-  abbrev Fallen : Local → Firsts → Type 0
-  Fallen own p = FirstsOf (own .tests) (own .targets .jump) (own .targets .fall) (own .touched) (own .denied .fall)
-      (own .falling .jump) (own .falling .fall) p
+  abbrev Listed : Local → Leads → Edges → Type 0
+  Listed own l x =
+      Told 0 (ListedAt l (own .denied .jump) (own .jumping .jump) (own .falling .jump)) 64 64 (x .jump)
+      × Told 0 (ListedAt l (own .denied .fall) (own .jumping .fall) (own .falling .fall)) 64 64 (x .fall)
 
-  module _ (jumped fallen : Firsts) (x : Edges)
-      (by-jump : ListedBy jumped (x .jump)) (by-fall : ListedBy fallen (x .fall)) where
-    found-own : Jumped (localOf body) jumped → Fallen (localOf body) fallen
-        → foundWith (localOf body) jumped fallen x ≡ foundOf body
-    unfolding localOf setsOf foundOf
-    found-own one two =
-        let by-one = firsts-by 1 jumped one in
-        let by-two = firsts-by 2 fallen two in
-        λ i.
-        record {
-          sets = record {
-            targets = localOf body .targets;
-            touched = localOf body .touched;
-            denied = localOf body .denied;
-            jumping = localOf body .jumping;
-            falling = localOf body .falling;
-            listed = record {
-              jump = listed-is 1 jumped by-one (inl refl) (by-jump .all) (x .jump) (by-jump .firsts) (by-jump .lists) i;
-              fall = listed-is 2 fallen by-two (inr refl) (by-fall .all) (x .fall) (by-fall .firsts) (by-fall .lists) i;
-            };
-          };
-          variable = localOf body .variable;
-          jumped = firsts-are body few 1 jumped by-one i;
-          fallen = firsts-are body few 2 fallen by-two i;
-        }
+  abbrev Paired : Local → Leads → (jumped fallen : Firsts) → Type 0
+  Paired own l jumped fallen =
+      FirstsOf l (own .denied .jump) (own .jumping .jump) (own .falling .jump) jumped
+      × FirstsOf l (own .denied .fall) (own .jumping .fall) (own .falling .fall) fallen
 
-    pub found-is : (own : Local) → own ≡ localOf body → Jumped own jumped → Fallen own fallen
-        → foundWith own jumped fallen x ≡ foundOf body
-    found-is own is = subst (λ (w : Local). Jumped w jumped → Fallen w fallen → foundWith w jumped fallen x
-        ≡ foundOf body) (sym is) found-own
+  module _ (l : Leads) where
+    sets-own : (x : Edges) → Led (localOf body) l → Listed (localOf body) l x → setsWith (localOf body) x ≡ setsOf body
+    unfolding localOf setsOf
+    sets-own x leads of = λ i. record {
+      targets = localOf body .targets;
+      touched = localOf body .touched;
+      denied = localOf body .denied;
+      jumping = localOf body .jumping;
+      falling = localOf body .falling;
+      listed = record {
+        jump = listed-is l leads 1 (inl refl) (x .jump) (of .0) i;
+        fall = listed-is l leads 2 (inr refl) (x .fall) (of .1) i;
+      };
+    }
+
+    pub sets-are : (own : Local) → own ≡ localOf body → (x : Edges) → Led own l → Listed own l x
+        → setsWith own x ≡ setsOf body
+    sets-are own is x = subst (λ (w : Local). Led w l → Listed w l x → setsWith w x ≡ setsOf body) (sym is)
+        (sets-own x)
+
+    module _ (sets : Sets) (jumped fallen : Firsts) where
+      abbrev foundWith : Local → Found
+      foundWith own = record { sets = sets; variable = own .variable; jumped = jumped; fallen = fallen }
+
+      found-own : sets ≡ setsOf body → Led (localOf body) l → Paired (localOf body) l jumped fallen
+          → foundWith (localOf body) ≡ foundOf body
+      unfolding localOf foundOf
+      found-own same leads of = λ i. record {
+        sets = same i;
+        variable = localOf body .variable;
+        jumped = firsts-are body few 1 jumped (firsts-by l leads 1 jumped (of .0)) i;
+        fallen = firsts-are body few 2 fallen (firsts-by l leads 2 fallen (of .1)) i;
+      }
+
+      pub found-are : (own : Local) → own ≡ localOf body → sets ≡ setsOf body → Led own l
+          → Paired own l jumped fallen → foundWith own ≡ foundOf body
+      found-are own is same = subst (λ (w : Local). Led w l → Paired w l jumped fallen → foundWith w ≡ foundOf body)
+          (sym is) (found-own same)

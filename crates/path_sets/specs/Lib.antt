@@ -1,6 +1,7 @@
--- What the contracts of the functions below `find` say, and what the proofs share. What is found is sets' Found.
+-- What the contracts of the functions below `find` and `sets_of` say, and what the proofs share. What is found is
+-- sets' Found.
 pub mod Parts
-pub mod Sorting
-pub mod Reaching
+pub mod Leading
+pub mod Turning
 pub mod Finding
 pub mod Uniqueness

@@ -1,9 +1,9 @@
--- What the private functions' contracts say of the words and lists that they pass on. Rests on sets' Local, on
--- words.Filled and on lower_laws' Joined.
+-- What the private functions' contracts say of the words and lists that they pass on, and what is found of a body bit
+-- by bit. Rests on sets' Local, on words.Filled and on lower_laws' Joined.
 use mathlib.Core.Path.{_≡_}
-use mathlib.Core.Bool.{Bool, true, false, not, _&&_, _||_}
+use mathlib.Core.Bool.{Bool, false, not, _&&_, _||_}
 use mathlib.Core.List.{List}
-use Prim.Native.Nat.{ℕ, _+_, _≤_, _<_}
+use Prim.Native.Nat.{ℕ, _≤_, _<_}
 use lib.Dec.{eqb}
 use lib.ListN.{length, getD}
 use Rattle.laws.specs.Terms.{bit, any}
@@ -14,21 +14,9 @@ use Rattle.lower_laws.specs.Joined.{byWay}
 use Rattle.sets.specs.declared.Firsts.{Firsts}
 use Rattle.sets.specs.declared.Found.{Found}
 use Rattle.sets.specs.Local.{Above}
-use Rattle.path_sets.specs.declared.Reach.{Reach}
+use Rattle.path_sets.specs.declared.Leads.{Leads}
 
--- what is in one of three
-abbrev pub EitherAt : (a j f : List ℕ) → ℕ → ℕ → Type 0
-EitherAt a j f s x = (k : ℕ) → bit x k ≡ bit (getD a s 0) k || (bit (getD j s 0) k || bit (getD f s 0) k)
-
--- those j that have a first below b
-abbrev pub ListedAt : List ℕ → ℕ → ℕ → Type 0
-ListedAt firsts b x = (j : ℕ) → bit x j ≡ any b (λ f. bit (getD firsts j 0) f)
-
--- for each b, those j whose lowest first is b
-pub record LowestFirsts (firsts l : List ℕ) : Type 0 where
-  pub size : length l ≡ 64
-  pub at : (b : ℕ) → b < 64 → (j : ℕ)
-      → any (b + 1) (λ f. bit (getD firsts j 0) f) ≡ (any b (λ f. bit (getD firsts j 0) f) || bit (getD l b 0) j)
+-- ---- clean paths
 
 -- lists with a place for each block, and ways that lead upward
 pub record Ways (jump fall touched : List ℕ) : Type 0 where
@@ -40,49 +28,55 @@ pub record Ways (jump fall touched : List ℕ) : Type 0 where
 
 -- P holds for the blocks from which a path leads to s through blocks that do not touch test s
 pub record Paths (jump fall touched : List ℕ) (s : ℕ) (P : ℕ → Bool) : Type 0 where
-  pub step : (b : ℕ) → b ≤ s → P b ≡ (not (bit (getD touched b 0) s) &&
+  pub step : (b : ℕ) → b < 64 → P b ≡ (not (bit (getD touched b 0) s) &&
       (eqb b s || (P (getD jump b 64) || P (getD fall b 64))))
-  pub top : (b : ℕ) → s < b → P b ≡ false
+  pub top : (b : ℕ) → 64 ≤ b → P b ≡ false
 
--- the blocks from which a way leads to such a path
-abbrev pub Leading : (jump fall touched : List ℕ) → ℕ → (targets : List ℕ) → ℕ → Type 0
-Leading jump fall touched s targets x = (P : ℕ → Bool) → Paths jump fall touched s P → (j : ℕ)
-    → bit x j ≡ P (getD targets j 64)
+-- what the word of block b has, by the paths to each s
+abbrev pub ByPaths : (jump fall touched : List ℕ) → ((ℕ → Bool) → (b s : ℕ) → Bool) → (b x : ℕ) → Type 0
+ByPaths jump fall touched f b x = (s : ℕ) (P : ℕ → Bool) → Paths jump fall touched s P → bit x s ≡ f P b s
 
--- the firsts of the edge of block s by one way: the blocks of its assignments, and those that lead to it by one of
--- their ways
-abbrev pub AssignedAt : (jump fall touched denied : List ℕ) → (s x : ℕ) → Type 0
-AssignedAt jump fall touched denied s x =
-    (P : ℕ → Bool) → Paths jump fall touched s P → (j : ℕ)
-    → bit x j ≡ (bit (getD denied j 0) s && ((P (getD jump j 64) || P (getD fall j 64)) || eqb j s))
+-- a path from where a way of b leads
+abbrev pub led : (targets : List ℕ) → (ℕ → Bool) → (b s : ℕ) → Bool
+led targets P b s = P (getD targets b 64)
 
-abbrev pub LedAt : (jump fall touched opposed targets : List ℕ) → (s x : ℕ) → Type 0
-LedAt jump fall touched opposed targets s x = (P : ℕ → Bool) → Paths jump fall touched s P → (j : ℕ)
-    → bit x j ≡ (bit (getD opposed s 0) j && P (getD targets j 64))
+-- by either way, or none since b is s
+abbrev pub ahead : (jump fall : List ℕ) → (ℕ → Bool) → (b s : ℕ) → Bool
+ahead jump fall P b s = eqb b s || (P (getD jump b 64) || P (getD fall b 64))
 
-pub record ReachOf (jump fall touched denied : List ℕ) (s : ℕ) (r : Reach) : Type 0 where
-  pub jumps : Leading jump fall touched s jump (r .jump)
-  pub falls : Leading jump fall touched s fall (r .fall)
-  pub assigned : AssignedAt jump fall touched denied s (r .assigned)
+pub record LeadsOf (jump fall touched : List ℕ) (l : Leads) : Type 0 where
+  pub jumps : Told 0 (ByPaths jump fall touched (led jump)) 64 64 (l .jump)
+  pub falls : Told 0 (ByPaths jump fall touched (led fall)) 64 64 (l .fall)
+  pub aheads : Told 0 (ByPaths jump fall touched (ahead jump fall)) 64 64 (l .ahead)
 
-abbrev pub noReach : Reach
-noReach = record { jump = 0; fall = 0; assigned = 0 }
+-- ---- the pairs of the conflict list
 
--- what holds of a word where s is a test; else the word is empty
-pub record OnTest (tests : ℕ) (P : ℕ → ℕ → Type 0) (s x : ℕ) : Type 0 where
-  pub on : bit tests s ≡ true → P s x
-  pub off : bit tests s ≡ false → (j : ℕ) → bit x j ≡ false
+-- block f is a first of the edge of s by one way, by the edges that the blocks deny and oppose
+abbrev pub pairs : Leads → (denied jumping falling : List ℕ) → (f s : ℕ) → Bool
+pairs l denied jumping falling f s =
+    (bit (getD denied f 0) s && bit (getD (l .ahead) f 0) s)
+    || ((bit (getD jumping f 0) s && bit (getD (l .jump) f 0) s)
+    || (bit (getD falling f 0) s && bit (getD (l .fall) f 0) s))
 
-pub record FirstsOf (tests : ℕ) (jump fall touched denied jumping falling : List ℕ) (p : Firsts) : Type 0 where
-  pub assigned : Told 0 (OnTest tests (AssignedAt jump fall touched denied)) 64 64 (p .assigned)
-  pub jumps : Told 0 (OnTest tests (LedAt jump fall touched jumping jump)) 64 64 (p .jump)
-  pub falls : Told 0 (OnTest tests (LedAt jump fall touched falling fall)) 64 64 (p .fall)
+-- those s that have a first below b
+abbrev pub ListedAt : Leads → (denied jumping falling : List ℕ) → (b x : ℕ) → Type 0
+ListedAt l denied jumping falling b x = (s : ℕ) → bit x s ≡ any b (λ f. pairs l denied jumping falling f s)
 
--- for each b, the edges by one way that have a first below b
-pub record ListedBy (p : Firsts) (r : List ℕ) : Type 0 where
-  pub all : List ℕ
-  pub firsts : Told 0 (EitherAt (p .assigned) (p .jump) (p .fall)) 64 64 all
-  pub lists : Told 0 (ListedAt all) 64 64 r
+-- b put into the words at the numbers of a set
+pub record PutAt (rows : List ℕ) (set b : ℕ) (new : List ℕ) : Type 0 where
+  pub size : length new ≡ 64
+  pub at : (s : ℕ) → s < 64 → (j : ℕ) → bit (getD new s 0) j ≡ bit (getD rows s 0) j || (bit set s && eqb j b)
+
+-- the blocks whose words have s, in both rows
+abbrev pub BothAt : (one two : List ℕ) → (s x : ℕ) → Type 0
+BothAt one two s x = (j : ℕ) → bit x j ≡ bit (getD one j 0) s && bit (getD two j 0) s
+
+pub record FirstsOf (l : Leads) (denied jumping falling : List ℕ) (p : Firsts) : Type 0 where
+  pub assigned : Told 0 (BothAt denied (l .ahead)) 64 64 (p .assigned)
+  pub jumps : Told 0 (BothAt jumping (l .jump)) 64 64 (p .jump)
+  pub falls : Told 0 (BothAt falling (l .fall)) 64 64 (p .fall)
+
+-- ---- what is found of a body
 
 -- bits of a row b that has a word for each block
 abbrev pub Bits : (ℕ → ℕ → Bool) → ℕ → ℕ → Type 0

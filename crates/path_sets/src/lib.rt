@@ -1,221 +1,133 @@
 // What paths join of a body: from what its blocks say by themselves (sets' Local) the sets of edges that the walks
-// need, and for each edge the firsts that the conflict list pairs with it. The meaning is in sets' Found and in
-// form's Conflict.
+// need, and for each edge the firsts that the conflict list pairs with it. Clean paths to all tests are found at once,
+// a word for each block. The meaning is in sets' Found and in form's Conflict.
 ghost use mathlib.Core.Path.{_≡_};
-ghost use mathlib.Core.Bool.{true, false};
-ghost use Prim.Native.Nat.{_<_};
-ghost use lib.ListN.{length};
+ghost use mathlib.Core.Bool.{_&&_, _||_};
+ghost use Prim.Native.Nat.{ℕ, _<_};
+ghost use lib.ListN.{length, getD};
+ghost use Rattle.laws.specs.Terms.{bit};
 ghost use Rattle.words.specs.Filled.{Told};
-ghost use Rattle.sets.specs.Local.{EdgesSized, Worded};
+ghost use Rattle.sets.specs.Local.{Worded};
 ghost use Rattle.sets.specs.Found.{SetsFrom, FoundFrom};
-ghost use Rattle.path_sets.specs.Parts.{EitherAt, ListedAt, LowestFirsts, Ways, noReach, ReachOf, FirstsOf};
-ghost use Rattle.path_sets.specs.Parts.{ListedBy};
+ghost use Rattle.path_sets.specs.Parts.{Ways, LeadsOf, ListedAt, PutAt, BothAt, FirstsOf};
 
-// The blocks from which a jump, and those from which a fall, leads to a clean path to a test; and those whose effects
-// deny the test's edge by one way and from which such a path leads, or which are its own.
-struct Reach {
-    jump: u64,
-    fall: u64,
-    assigned: u64,
+// For each block, the tests to which a clean path leads: from where its jump leads, from where its fall leads, and
+// from either or from the block itself. Blocks that are no tests stand among them: no edge of theirs is ever denied or
+// opposed.
+struct Leads {
+    jump: [u64; 64],
+    fall: [u64; 64],
+    ahead: [u64; 64],
 }
 
-// From which blocks a jump or a fall leads to s by a path that does not touch test s, and which assign against its
-// edge: the blocks from s down.
-fn reach_of(jump: &[usize], fall: &[usize], touched: &[u64], denied: &[u64], s: usize) -> Reach
-    requires { ⌜ Ways (now jump) (now fall) (now touched) × ((length (now denied) ≡ 64) × (s < 64)) ⌝ }
-    ensures { λ r. ⌜ ReachOf (now (jump .entry)) (now (fall .entry)) (now (touched .entry))
-        (now (denied .entry)) s r ⌝ }
+// The word at place k; past the last, none.
+fn word_at(words: &[u64], k: usize) -> u64
+    requires { ⌜ length (now words) ≡ 64 ⌝ }
+    ensures { λ r. ⌜ r ≡ getD (now (words .entry)) k 0 ⌝ }
 {
-    let mut clean = 0;
-    let mut by_jump = 0;
-    let mut by_fall = 0;
-    let mut assigned = 0;
-    let mut b = s + 1;
+    if k < 64 { words[k] } else { 0 }
+}
+
+// From the last block down. A path is clean for a test where no block of it touches the test.
+fn leads_of(to: sets::Targets, touched: [u64; 64]) -> Leads
+    requires { ⌜ Ways (to .jump) (to .fall) touched ⌝ }
+    ensures { λ r. ⌜ LeadsOf (to .jump) (to .fall) touched r ⌝ }
+{
+    let mut clean = [0; 64];
+    let mut jump = [0; 64];
+    let mut fall = [0; 64];
+    let mut ahead = [0; 64];
+    let mut b = 64;
     while b > 0 {
         b -= 1;
-        let j = words::has(clean, jump[b]);
-        let f = words::has(clean, fall[b]);
-        let t = words::has(touched[b], s);
-        let d = words::has(denied[b], s);
-        by_jump = words::put(by_jump, b, j);
-        by_fall = words::put(by_fall, b, f);
-        assigned = words::put(assigned, b, d & ((j | f) | (b == s)));
-        clean = words::put(clean, b, !t & ((b == s) | (j | f)));
+        let j = word_at(&clean, to.jump[b]);
+        let f = word_at(&clean, to.fall[b]);
+        let led = words::either(j, f);
+        let here = words::put(led, b, true);
+        jump[b] = j;
+        fall[b] = f;
+        ahead[b] = here;
+        clean[b] = words::less(here, touched[b]);
     }
-    Reach {
-        jump: by_jump,
-        fall: by_fall,
+    Leads { jump, fall, ahead }
+}
+
+// The edges by one way that the conflict list pairs with a block as first: those that its effects deny, and those
+// that its edge by jump and its edge by fall oppose, as far as clean paths lead to them.
+fn seconds_of(denied: u64, ahead: u64, jumping: u64, jump: u64, falling: u64, fall: u64) -> u64
+    ensures { λ r. ⌜ ((s : ℕ) → bit r s ≡ (bit denied s && bit ahead s) ||
+        ((bit jumping s && bit jump s) || (bit falling s && bit fall s))) ⌝ }
+{
+    let assigned = words::both(denied, ahead);
+    words::either(
         assigned,
-    }
+        words::either(words::both(jumping, jump), words::both(falling, fall)),
+    )
 }
 
-// The same where s is a test; nothing where it is none.
-fn reach_if(
-    test: bool,
-    jump: &[usize],
-    fall: &[usize],
-    touched: &[u64],
-    denied: &[u64],
-    s: usize,
-) -> Reach
-    requires { ⌜ Ways (now jump) (now fall) (now touched) × ((length (now denied) ≡ 64) × (s < 64)) ⌝ }
-    ensures { λ r. ⌜
-        (test ≡ true
-        → ReachOf (now (jump .entry)) (now (fall .entry)) (now (touched .entry)) (now (denied .entry)) s r) ×
-        (test ≡ false → r ≡ noReach) ⌝ }
+// For each b, the edges by one way that have a first below b.
+fn listed_by(l: Leads, denied: [u64; 64], jumping: [u64; 64], falling: [u64; 64]) -> [u64; 64]
+    ensures { λ r. ⌜ Told 0 (ListedAt l denied jumping falling) 64 64 r ⌝ }
 {
-    if test {
-        return reach_of(jump, fall, touched, denied, s);
-    }
-    Reach {
-        jump: 0,
-        fall: 0,
-        assigned: 0,
-    }
-}
-
-// All firsts of each edge.
-fn all_firsts(assigned: &[u64], jump: &[u64], fall: &[u64]) -> [u64; 64]
-    requires { ⌜ (length (now assigned) ≡ 64) × ((length (now jump) ≡ 64) × (length (now fall) ≡ 64)) ⌝ }
-    ensures { λ r. ⌜ Told 0 (EitherAt (now (assigned .entry)) (now (jump .entry)) (now (fall .entry))) 64 64 r ⌝ }
-{
-    let mut r = [0; 64];
-    let mut s = 0;
-    while s < 64 {
-        r[s] = words::either(assigned[s], words::either(jump[s], fall[s]));
-        s += 1;
-    }
-    r
-}
-
-// For each block, those whose lowest first it is.
-fn lowest_firsts(firsts: &[u64]) -> [u64; 64]
-    requires { ⌜ length (now firsts) ≡ 64 ⌝ }
-    ensures { λ r. ⌜ LowestFirsts (now (firsts .entry)) r ⌝ }
-{
-    let mut r = [0; 64];
-    let mut s = 0;
-    while s < 64 {
-        let all = firsts[s];
-        let f = words::lowest(all);
-        r[f] = words::put(r[f], s, all != 0);
-        s += 1;
-    }
-    r
-}
-
-// For each b, those that have a first below b.
-fn listed_rows(firsts: &[u64]) -> [u64; 64]
-    requires { ⌜ length (now firsts) ≡ 64 ⌝ }
-    ensures { λ r. ⌜ Told 0 (ListedAt (now (firsts .entry))) 64 64 r ⌝ }
-{
-    let lowest = lowest_firsts(firsts);
     let mut r = [0; 64];
     let mut all = 0;
     let mut b = 0;
     while b < 64 {
         r[b] = all;
-        all = words::either(all, lowest[b]);
+        let here = seconds_of(
+            denied[b],
+            l.ahead[b],
+            jumping[b],
+            l.jump[b],
+            falling[b],
+            l.fall[b],
+        );
+        all = words::either(all, here);
         b += 1;
     }
     r
 }
 
-// The firsts of the edges by one way, from the edges that each block's effects deny and those that each edge opposes,
-// by jump and by fall.
-fn firsts_of(
-    tests: u64,
-    jump: &[usize],
-    fall: &[usize],
-    touched: &[u64],
-    denied: &[u64],
-    jumping: &[u64],
-    falling: &[u64],
-) -> sets::Firsts
-    requires { ⌜ Ways (now jump) (now fall) (now touched) ×
-        ((length (now denied) ≡ 64) × ((length (now jumping) ≡ 64) × (length (now falling) ≡ 64))) ⌝ }
-    ensures { λ r. ⌜ FirstsOf tests (now (jump .entry)) (now (fall .entry)) (now (touched .entry))
-        (now (denied .entry)) (now (jumping .entry)) (now (falling .entry)) r ⌝ }
+// b put into the words at the numbers of a set.
+fn put_at(rows: &mut [u64], set: u64, b: usize)
+    requires { ⌜ (length (now rows) ≡ 64) × (b < 64) ⌝ }
+    ensures { λ _. ⌜ PutAt (now (rows .entry)) set b (now (rows .exit)) ⌝ }
 {
-    let mut assigned = [0; 64];
-    let mut jumps = [0; 64];
-    let mut falls = [0; 64];
-    let mut s = 0;
-    while s < 64 {
-        let r = reach_if(words::has(tests, s), jump, fall, touched, denied, s);
-        assigned[s] = r.assigned;
-        jumps[s] = words::both(jumping[s], r.jump);
-        falls[s] = words::both(falling[s], r.fall);
-        s += 1;
+    let mut left = set;
+    while left != 0 {
+        let s = words::lowest(left);
+        rows[s] = words::put(rows[s], b, true);
+        left = words::rest(left);
     }
+}
+
+// For each s, the blocks whose words have s, in both rows.
+fn blocks_by(one: [u64; 64], two: [u64; 64]) -> [u64; 64]
+    ensures { λ r. ⌜ Told 0 (BothAt one two) 64 64 r ⌝ }
+{
+    let mut r = [0; 64];
+    let mut b = 0;
+    while b < 64 {
+        put_at(&mut r, words::both(one[b], two[b]), b);
+        b += 1;
+    }
+    r
+}
+
+// The firsts of the edges by one way.
+fn firsts_by(l: Leads, denied: [u64; 64], jumping: [u64; 64], falling: [u64; 64]) -> sets::Firsts
+    ensures { λ r. ⌜ FirstsOf l denied jumping falling r ⌝ }
+{
+    let to_ahead = l.ahead;
+    let to_jump = l.jump;
+    let to_fall = l.fall;
+    let assigned = blocks_by(denied, to_ahead);
+    let jump = blocks_by(jumping, to_jump);
+    let fall = blocks_by(falling, to_fall);
     sets::Firsts {
         assigned,
-        jump: jumps,
-        fall: falls,
-    }
-}
-
-fn firsts_by(
-    tests: u64,
-    to: sets::Targets,
-    touched: [u64; 64],
-    denied: [u64; 64],
-    opposed: sets::Edges,
-) -> sets::Firsts
-    requires { ⌜ Ways (to .jump) (to .fall) touched × ((length denied ≡ 64) × EdgesSized opposed) ⌝ }
-    ensures { λ r. ⌜ FirstsOf tests (to .jump) (to .fall) touched denied (opposed .jump) (opposed .fall) r ⌝ }
-{
-    let jump = to.jump;
-    let fall = to.fall;
-    let jumping = opposed.jump;
-    let falling = opposed.fall;
-    firsts_of(tests, &jump, &fall, &touched, &denied, &jumping, &falling)
-}
-
-// For each b, the edges by one way that have a first below b.
-fn listed_by(p: sets::Firsts) -> [u64; 64]
-    ensures { λ r. ⌜ ListedBy p r ⌝ }
-{
-    let a = p.assigned;
-    let j = p.jump;
-    let f = p.fall;
-    let all = all_firsts(&a, &j, &f);
-    listed_rows(&all)
-}
-
-// All that is found of a body, from what its blocks say by themselves: the crate listing reads the conflict list off
-// it.
-pub fn find(local: sets::Local) -> sets::Found
-    requires { ⌜ Worded local ⌝ }
-    ensures { λ r. ⌜ FoundFrom local r ⌝ }
-{
-    let tests = local.tests;
-    let targets = local.targets;
-    let touched = local.touched;
-    let denied = local.denied;
-    let jumping = local.jumping;
-    let falling = local.falling;
-    let deny_jump = denied.jump;
-    let deny_fall = denied.fall;
-    let jumped = firsts_by(tests, targets, touched, deny_jump, jumping);
-    let fallen = firsts_by(tests, targets, touched, deny_fall, falling);
-    let jump = listed_by(jumped);
-    let fall = listed_by(fallen);
-    let listed = sets::Edges { jump, fall };
-    let sets = sets::Sets {
-        targets,
-        touched,
-        denied,
-        jumping,
-        falling,
-        listed,
-    };
-    let variable = local.variable;
-    sets::Found {
-        sets,
-        variable,
-        jumped,
-        fallen,
+        jump,
+        fall,
     }
 }
 
@@ -224,6 +136,57 @@ pub fn sets_of(local: sets::Local) -> sets::Sets
     requires { ⌜ Worded local ⌝ }
     ensures { λ r. ⌜ SetsFrom local r ⌝ }
 {
-    let f = find(local);
-    f.sets
+    let targets = local.targets;
+    let touched = local.touched;
+    let denied = local.denied;
+    let jumping = local.jumping;
+    let falling = local.falling;
+    let leads = leads_of(targets, touched);
+    let deny_jump = denied.jump;
+    let jump_jump = jumping.jump;
+    let fall_jump = falling.jump;
+    let jump = listed_by(leads, deny_jump, jump_jump, fall_jump);
+    let deny_fall = denied.fall;
+    let jump_fall = jumping.fall;
+    let fall_fall = falling.fall;
+    let fall = listed_by(leads, deny_fall, jump_fall, fall_fall);
+    let listed = sets::Edges { jump, fall };
+    sets::Sets {
+        targets,
+        touched,
+        denied,
+        jumping,
+        falling,
+        listed,
+    }
+}
+
+// All that is found of a body, from what its blocks say by themselves: the crate listing reads the conflict list off
+// it. Where paths lead is found a second time, which costs the list little.
+pub fn find(local: sets::Local) -> sets::Found
+    requires { ⌜ Worded local ⌝ }
+    ensures { λ r. ⌜ FoundFrom local r ⌝ }
+{
+    let sets = sets_of(local);
+    let targets = local.targets;
+    let touched = local.touched;
+    let leads = leads_of(targets, touched);
+    let denied = local.denied;
+    let jumping = local.jumping;
+    let falling = local.falling;
+    let deny_jump = denied.jump;
+    let jump_jump = jumping.jump;
+    let fall_jump = falling.jump;
+    let jumped = firsts_by(leads, deny_jump, jump_jump, fall_jump);
+    let deny_fall = denied.fall;
+    let jump_fall = jumping.fall;
+    let fall_fall = falling.fall;
+    let fallen = firsts_by(leads, deny_fall, jump_fall, fall_fall);
+    let variable = local.variable;
+    sets::Found {
+        sets,
+        variable,
+        jumped,
+        fallen,
+    }
 }

@@ -1,14 +1,15 @@
--- `path_sets::sets_of` meets its contract: the sets are a part of what is found.
-use mathlib.Core.Path.{ap}
-use Rattle.sets.specs.declared.Found.{Found}
-use Rattle.sets.specs.Found.{foundOf}
+-- `path_sets::sets_of` meets its contract. What the called functions say of one another is put together by `sets-are`.
+use Rattle.path_sets.specs.Finding.{sets-are}
 use borrow.Author.Needs.{needs}
 use Rattle.path_sets.proofs.sets_of.Statement.{statement}
 use Rattle.path_sets.proofs.sets_of.Tie as tie
 
 returns : tie.Need-returns
-unfolding foundOf
-returns c = λ body sound is. ap (λ (f : Found). f .sets) (c .before .find .ensures body sound is)
+returns c =
+    let by-jump = c .before .before .before .before in
+    let leads = by-jump .before .before .before .before in
+    λ body sound is. sets-are body sound _ _ is _ (leads .leads-of .ensures)
+    (by-jump .listed-by .ensures, c .listed-by2 .ensures)
 
 pub sets-of-spec : {M : Type 1} → statement M
-sets-of-spec = tie.close (tie.spec (λ c κs. search needs) returns)
+sets-of-spec = tie.close (tie.spec (λ c κs. search needs) (λ _ _. tt) (λ _ _. tt) returns)
