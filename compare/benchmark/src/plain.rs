@@ -324,41 +324,25 @@ fn plan_of(body: &Body) -> [Plan; MOST_BLOCKS] {
             }
         }
     }
-    // For each test, the blocks from which a clean path leads to it, and from those the lowest first of each of its edges.
-    for s in 0..blocks.len() {
-        if blocks[s].ending != 3 {
-            continue;
-        }
-        let mut clean = if plan[s].touched >> s & 1 == 0 { 1u64 << s } else { 0 };
-        let mut lowest = [MOST_BLOCKS; 2];
+    // From the last block down: the tests to which a clean path leads, and so the edges of which the block is a first.
+    let mut clean = [0u64; MOST_BLOCKS];
+    let mut seconds = [[0u64; 2]; MOST_BLOCKS];
+    for b in (0..blocks.len()).rev() {
+        let block = &blocks[b];
+        let jumps = if block.ending >= 1 { clean[block.jump as usize] } else { 0 };
+        let falls = if block.ending >= 2 { clean[block.fall as usize] } else { 0 };
+        let ahead = jumps | falls | 1 << b;
         for way in 0..2 {
-            if plan[s].denied[way] >> s & 1 == 1 {
-                lowest[way] = s;
-            }
+            let Plan { denied, against, .. } = &plan[b];
+            seconds[b][way] = denied[way] & ahead | against[0][way] & jumps | against[1][way] & falls;
         }
-        for b in (0..s).rev() {
-            let block = &blocks[b];
-            let jumps = clean >> block.jump & 1 == 1;
-            let falls = block.ending >= 2 && clean >> block.fall & 1 == 1;
-            if !jumps && !falls {
-                continue;
-            }
-            for way in 0..2 {
-                let assigned = plan[b].denied[way] >> s & 1 == 1;
-                let by_jump = jumps && plan[b].against[0][way] >> s & 1 == 1;
-                let by_fall = falls && plan[b].against[1][way] >> s & 1 == 1;
-                if assigned || by_jump || by_fall {
-                    lowest[way] = b;
-                }
-            }
-            if plan[b].touched >> s & 1 == 0 {
-                clean |= 1 << b;
-            }
-        }
+        clean[b] = ahead & !plan[b].touched;
+    }
+    let mut listed = [0u64; 2];
+    for (block, below) in plan.iter_mut().zip(seconds) {
+        block.listed = listed;
         for way in 0..2 {
-            for above in &mut plan[(lowest[way] + 1).min(MOST_BLOCKS)..] {
-                above.listed[way] |= 1 << s;
-            }
+            listed[way] |= below[way];
         }
     }
     plan
