@@ -76,7 +76,7 @@ module _ (jump fall touched : List ℕ) where
     aheads = from-end (Tells (ahead jump fall)) i (l .ahead) none (r .aheads-from);
   }
 
-  module _ (ways : Ways jump fall touched) (i b : ℕ) (clean jumps falls aheads : List ℕ) (inside : b < 64)
+  module _ (ways : Ways jump fall) (i b : ℕ) (clean jumps falls aheads : List ℕ) (inside : b < 64)
       (next : i ≡ b + 1) (r : Leading i clean jumps falls aheads) where
     -- a target's word is there already
     by : (targets : List ℕ) → length targets ≡ 64 → Above targets

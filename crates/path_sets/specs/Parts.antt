@@ -18,11 +18,10 @@ use Rattle.path_sets.specs.declared.Leads.{Leads}
 
 -- ---- clean paths
 
--- lists with a place for each block, and ways that lead upward
-pub record Ways (jump fall touched : List ℕ) : Type 0 where
+-- a target for each block by each way, above the block
+pub record Ways (jump fall : List ℕ) : Type 0 where
   pub jumps : length jump ≡ 64
   pub falls : length fall ≡ 64
-  pub touches : length touched ≡ 64
   pub jumps-above : Above jump
   pub falls-above : Above fall
 
@@ -40,7 +39,7 @@ ByPaths jump fall touched f b x = (s : ℕ) (P : ℕ → Bool) → Paths jump fa
 abbrev pub led : (targets : List ℕ) → (ℕ → Bool) → (b s : ℕ) → Bool
 led targets P b s = P (getD targets b 64)
 
--- by either way, or none since b is s
+-- by either way; or b is s
 abbrev pub ahead : (jump fall : List ℕ) → (ℕ → Bool) → (b s : ℕ) → Bool
 ahead jump fall P b s = eqb b s || (P (getD jump b 64) || P (getD fall b 64))
 

@@ -11,9 +11,8 @@ ghost use Rattle.sets.specs.Local.{Worded};
 ghost use Rattle.sets.specs.Found.{SetsFrom, FoundFrom};
 ghost use Rattle.path_sets.specs.Parts.{Ways, LeadsOf, ListedAt, PutAt, BothAt, FirstsOf};
 
-// For each block, the tests to which a clean path leads: from where its jump leads, from where its fall leads, and
-// from either or from the block itself. Blocks that are no tests stand among them: no edge of theirs is ever denied or
-// opposed.
+// For each block, the tests to which a clean path leads from where its jump leads, and from where its fall leads; and
+// both together with its own. Blocks that are no tests stand among them: no edge of theirs is ever denied or opposed.
 struct Leads {
     jump: [u64; 64],
     fall: [u64; 64],
@@ -30,7 +29,7 @@ fn word_at(words: &[u64], k: usize) -> u64
 
 // From the last block down. A path is clean for a test where no block of it touches the test.
 fn leads_of(to: sets::Targets, touched: [u64; 64]) -> Leads
-    requires { ⌜ Ways (to .jump) (to .fall) touched ⌝ }
+    requires { ⌜ Ways (to .jump) (to .fall) ⌝ }
     ensures { λ r. ⌜ LeadsOf (to .jump) (to .fall) touched r ⌝ }
 {
     let mut clean = [0; 64];
