@@ -6,7 +6,6 @@ use mathlib.Core.List.{List}
 use mathlib.Core.Path.{_≡_}
 use Prim.Native.Nat.{ℕ, _<_, _≤_}
 use lib.ListN.{length}
-use Rattle.form.specs.declared.Body.{Body}
 use Rattle.form.specs.Form.{bodyOf}
 use Rattle.theory.specs.Route.{Path, dearest, stepCost}
 use Rattle.theory.specs.Run.{Run, runCost}

@@ -9,10 +9,10 @@ use borrow.Author.Tests.{ltb-true, ltb-false}
 use lib.Dec.{eqb, ltb}
 use lib.IntN.{pos}
 use lib.ListN.{length, getD, take, drop}
-use Rattle.laws.specs.Terms.{setOf, bit, anyOf}
+use Rattle.laws.specs.Terms.{bit, anyOf}
 use Rattle.laws.specs.Tests.{clash, split, eqb-swap}
 use Rattle.words.specs.Tabled.{tabled, rows}
-use Rattle.words.specs.Filled.{Told, same-bits, set-bits, told-as, told-tabled, told-rows}
+use Rattle.words.specs.Filled.{Told, told-as, told-tabled, told-rows}
 use Rattle.form.specs.declared.Body.{Body}
 use Rattle.form.specs.declared.Block.{Block}
 use Rattle.form.specs.Conflict.{block, effectsBelow, effectsOf, touches, lastOn, refuses, exits, wayTo, isTest}
@@ -164,14 +164,10 @@ module _ (body : Body) (size : length (body .blocks) ≡ 64) (c : Columns)
         p ∙ sym (ways-lead (block body b .ending) (block body b .jump) (block body b .fall) .1))) i;
   }
 
-  tests-are : t .tests ≡ setOf 64 (isTest body)
-  tests-are = same-bits (t .tests) (setOf 64 (isTest body)) (λ k. test-bit k ∙ sym (set-bits (isTest body) off k))
-
   pub local-is : (e : EffectRows) → EffectRowsOf t (c .owned) (body .effects) e → (alike : List ℕ)
       → Told 0 (AlikeAt (t .tests) (t .variable)) 64 64 alike → (jumping falling : Edges)
       → OpposedOf t alike (t .jump) jumping → OpposedOf t alike (t .fall) falling
       → record {
-        tests = t .tests;
         targets = c .targets;
         touched = e .touched;
         denied = e .denied;
@@ -181,7 +177,6 @@ module _ (body : Body) (size : length (body .blocks) ≡ 64) (c : Columns)
       } ≡ localOf body
   unfolding localOf block
   local-is e rowed alike same jumping falling one two = λ i. record {
-    tests = tests-are i;
     targets = targets-are i;
     touched = touched-is (e .touched) (rowed .touched) i;
     denied = record {

@@ -1,6 +1,6 @@
 -- One turn of the loops over effects, over a block's effects and over blocks. Rests on Parts and on lower_laws'
 -- Effects.
-use mathlib.Core.Path.{_≡_, sym, ap, ap₂, subst, _∙_}
+use mathlib.Core.Path.{_≡_, sym, ap, ap₂, _∙_}
 use mathlib.Core.Bool.{Bool, true, false, not, _&&_, _||_}
 use mathlib.Core.List.{List, [], _∷_, _++_}
 use Prim.Native.Nat.{ℕ, _+_}
@@ -8,7 +8,7 @@ use native.Mathlib.Numerals.{add-one}
 use lib.Dec.{eqb}
 use lib.IntN.{pos}
 use lib.ListN.{length, getD, take, drop}
-use Rattle.laws.specs.Terms.{bit, anyOf}
+use Rattle.laws.specs.Terms.{bit}
 use Rattle.laws.specs.Tests.{eqb-swap}
 use Rattle.laws.specs.Sets.{bit-none}
 use Rattle.form.specs.declared.Effect.{Effect}

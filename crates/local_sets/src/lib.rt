@@ -350,7 +350,6 @@ pub fn local_of(body: form::Body) -> sets::Local
     let touched = e.touched;
     let denied = e.denied;
     sets::Local {
-        tests,
         targets,
         touched,
         denied,

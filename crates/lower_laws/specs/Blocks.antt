@@ -1,17 +1,14 @@
 -- Blocks and lists: what stands past a list's end, a block of the body's first `count`. Rests on form's Conflict.
-use mathlib.Core.Path.{_≡_, refl, sym, ap, _∙_}
-use mathlib.Core.Bool.{Bool, true, false}
+use mathlib.Core.Path.{_≡_, refl, sym}
 use mathlib.Core.List.{List, [], _∷_}
-use Prim.Native.Nat.{ℕ, zero, suc, _+_, _≤_, _<_}
+use Prim.Native.Nat.{ℕ, zero, suc, _≤_, _<_}
 use native.Mathlib.Omega.{arith}
-use borrow.Author.Tests.{lt-ltb, le-ltb, ltb-true, ltb-false}
+use borrow.Author.Tests.{ltb-true, ltb-false}
 use lib.Dec.{ltb}
 use lib.ListN.{length, getD, take, length-take}
 use lib.Seq.{getD-take}
 use Rattle.laws.specs.Tests.{split}
-use Rattle.form.specs.declared.Block.{Block}
 use Rattle.form.specs.Form.{when}
-use Rattle.form.specs.Conflict.{noBlock}
 
 module _ {A : Type 0} where
   pub beyond : (l : List A) (i : ℕ) (z : A) → length l ≤ i → getD l i z ≡ z

@@ -17,9 +17,8 @@ use Rattle.laws.specs.Lists.{tested-out, tested-in}
 use Rattle.form.specs.declared.Body.{Body}
 use Rattle.form.specs.declared.Block.{Block}
 use Rattle.form.specs.Conflict.{Edge, noBlock, block, effectsOf, touches, lastOn, exitsBy, exits, wayTo, isTest}
-use Rattle.form.specs.Conflict.{condition, contradict, opposes, denies, Onward, clean, leads, Pair, assigned, crossed}
+use Rattle.form.specs.Conflict.{opposes, denies, Onward, clean, leads, Pair, assigned, crossed}
 use Rattle.form.specs.Conflict.{assignmentPair, edgePair, pairsOf, conflicts, secondOf, listed}
-use Rattle.lower_laws.specs.PairTest.{contradict-swap}
 use Rattle.lower_laws.specs.Blocks.{beyond}
 use Rattle.lower_laws.specs.Endings.{some-exit}
 use Rattle.lower_laws.specs.ConflictList.{clean-up, clean-says}
@@ -77,18 +76,6 @@ module _ (body : Body) where
   pub denies-none : (b : ℕ) (e : Edge) → block body b ≡ noBlock → denies body b e ≡ false
   unfolding denies lastOn
   denies-none b e q = rw (no-effects b q) (and-false (isTest body (e .0)))
-
-  pub opposes-swap : (x e : Edge) → opposes body x e ≡ opposes body e x
-  unfolding opposes
-  opposes-swap x e = rw (contradict-swap (condition body x) (condition body e))
-      (ap (λ b. b && contradict (condition body e) (condition body x))
-      (swap (isTest body (x .0)) (isTest body (e .0))))
-    where
-      swap : (a b : Bool) → (a && b) ≡ (b && a)
-      swap true true = refl
-      swap true false = refl
-      swap false true = refl
-      swap false false = refl
 
   pub denies-test : (b : ℕ) (e : Edge) → isTest body (e .0) ≡ false → denies body b e ≡ false
   unfolding denies

@@ -2,21 +2,21 @@
 -- number lies beside a constant, below it, at it or above it, decides whether it meets the relation, so that two
 -- conditions share a whole number exactly where a place beside both constants exists that meets both. A constant is a
 -- condition too (`equal-is`). Rests on Conditions.
-use mathlib.Core.Path.{_≡_, refl, sym, ap, ap₂, subst, _∙_}
-use mathlib.Core.Bool.{Bool, true, false, not, _||_, _&&_, true≢false}
+use mathlib.Core.Path.{_≡_, refl, sym, ap, _∙_}
+use mathlib.Core.Bool.{Bool, true, false, not, _||_, _&&_}
 use Prim.Native.Nat.{ℕ, zero, suc, _+_, _<_}
 use native.Mathlib.Omega.{arith}
 use borrow.Author.Tests.{eqb-true, eq-eqb, ne-eqb}
 use lib.Dec.{eqb}
 use lib.IntN.{ℤ, pos, _+ℤ_, _-ℤ_}
 use lib.Signed.{ltZ}
-use Rattle.laws.specs.Whole.{up, dn, sum-is, diff-is, ltZ-true, ltZ-false, lt-ltZ, le-ltZ, le-leZ, lt-leZ}
+use Rattle.laws.specs.Whole.{up, dn, ltZ-true, ltZ-false, lt-ltZ, le-ltZ, le-leZ, lt-leZ}
 use mir.Syntax.{Width}
 use mir.Val.{SFits}
 use Rattle.laws.specs.Signed.{sfits-up, sfits-dn, sfits-in}
 use Rattle.laws.specs.Tests.{clash, both, and-out, and-in, or-out, or-in-left, or-in-right, not-out, is-false, eqb-same}
-use Rattle.form.specs.Relation.{eqZ, meets}
-use Rattle.form.specs.Conflict.{Condition, met, Contradict, contradict}
+use Rattle.form.specs.Relation.{meets}
+use Rattle.form.specs.Conflict.{Condition, contradict}
 use Rattle.lower_laws.specs.Relations.{eqZ-true, eq-eqZ, ne-eqZ}
 use Rattle.lower_laws.specs.Conditions.{by-side, one-less, one-more, contradict-says}
 
@@ -226,15 +226,6 @@ module _ (c d : Condition) where
         none-meets-both = λ x m n. clash (shares-in (c .relation) (c .constant) (d .relation) (d .constant) x m n)
             (not-out (shares (c .relation) (c .constant) (d .relation) (d .constant)) s);
       }))
-
-  pub contradict-swap : contradict c d ≡ contradict d c
-  contradict-swap = both _ _ (turn c d) (turn d c)
-    where
-      turn : (c d : Condition) → contradict c d ≡ true → contradict d c ≡ true
-      turn c d h =
-          let k = (contradict-says c d) .0 h in
-          (contradict-says d c) .1
-          (record { alike = sym (k .alike); none-meets-both = λ x m n. k .none-meets-both x n m })
 
 -- of two conditions on one variable
 pub test-is : (v r : ℕ) (a : ℤ) (q : ℕ) (b : ℤ)

@@ -1,35 +1,26 @@
 -- What an accepted form's body owes the walks, and that what a call owes leaves one outcome. Rests on Owed, Plan and
 -- roundtrip's Sound.
-use mathlib.Core.Path.{_≡_, refl, sym, ap, subst, _∙_}
-use mathlib.Core.Bool.{Bool, true, false, _||_}
-use mathlib.Core.List.{List, [], _∷_}
-use Prim.Native.Nat.{ℕ, _+_, _*_, _<_, _≤_}
+use mathlib.Core.Path.{_≡_, sym, ap, subst, _∙_}
+use mathlib.Core.List.{List}
+use Prim.Native.Nat.{ℕ, _*_, _<_, _≤_}
 use native.Mathlib.Nat.{le-trans, le-of-lt, lt-of-le-of-lt, mul-le-mul-left, mul-le-mul-right}
 use native.Mathlib.Omega.{arith}
-use lib.Dec.{eqb, lit<}
+use lib.Dec.{lit<}
 use mir.Syntax.{w64}
 use mir.Val.{Fits}
-use lib.ListN.{length}
-use borrow.Author.Tests.{eqb-false}
-use Rattle.form.specs.declared.Body.{Body}
-use Rattle.form.specs.declared.Reading.{Reading}
-use Rattle.form.specs.declared.Verdict.{Verdict}
-use Rattle.form.specs.declared.Verdict.the-variants.{Accepted, Refused}
-use Rattle.form.specs.Form.{when, oneIf, isBlock, isEffect, recordsFrom, recordFault, endFault, judged, judgeEnds, judgeRecords, judge, bodyOf, zeroBody}
-use Rattle.form.specs.Answer.{accepted, reading}
-use Rattle.form.specs.Conflict.{block, Sound}
+use Rattle.form.specs.declared.Verdict.the-variants.{Accepted}
+use Rattle.form.specs.Form.{judge, bodyOf}
+use Rattle.form.specs.Conflict.{block}
 use Rattle.form.specs.declared.Counter.{Counter}
 use Rattle.counter.specs.declared.Counted.{Counted}
 use Rattle.counter.specs.declared.Counted.the-variants.{Iterations, Refused as NoCount}
 use Rattle.counter.specs.Answer.{Values, said, Owed as Counter·Owed}
 use Rattle.counter.specs.Answer.Owed.{no-relation, no-count as without, counted as with-count}
-use Rattle.counter.specs.Uniqueness.{at-most}
 use Rattle.lower_laws.specs.Loops.{count-once}
 use Rattle.roundtrip.specs.Acceptance.{refused}
 use Rattle.roundtrip.specs.Sound.{sound, well-formed}
 use Rattle.theory.specs.Route.{stepCost}
 use Rattle.theory.specs.Range.{Range, up-same}
-use Rattle.roundtrip.specs.Read.{read-accepted, read-body, read-sound}
 use Rattle.theory.specs.Plan.{costLimit}
 use Rattle.plan.specs.Owed.{CountOf, Owed}
 use Rattle.plan.specs.Owed.Owed.{no-form, no-count, counted}

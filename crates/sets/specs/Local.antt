@@ -5,7 +5,6 @@ use mathlib.Core.Bool.{Bool, _&&_}
 use mathlib.Core.List.{List}
 use Prim.Native.Nat.{ℕ, _<_}
 use lib.ListN.{length, getD}
-use Rattle.laws.specs.Terms.{setOf}
 use Rattle.words.specs.Tabled.{tabled, rows}
 use Rattle.form.specs.declared.Body.{Body}
 use Rattle.form.specs.Conflict.{Edge, block, touches, exits, wayTo, isTest, opposes, denies}
@@ -16,12 +15,11 @@ use Rattle.sets.specs.declared.Local.{Local}
 abbrev pub edgeRows : (ℕ → Edge → Bool) → Edges
 edgeRows f = record { jump = rows (λ b k. f b (k, 1)); fall = rows (λ b k. f b (k, 2)) }
 
--- tests: the blocks that are tests; touched: the tests whose variable b has an effect on; denied: the edges that b's
+-- touched: the tests whose variable b has an effect on; denied: the edges that b's
 -- last effect on their variable, a constant, conflicts with; jumping, falling: the edges that b's edge by jump, by
 -- fall, conflicts with
 unfoldable pub localOf : Body → Local
 localOf body = record {
-  tests = setOf 64 (isTest body);
   targets = record { jump = tabled 64 (λ b. wayTo 1 (exits body b)); fall = tabled 64 (λ b. wayTo 2 (exits body b)) };
   touched = rows (λ b k. isTest body k && touches body b (block body k .variable));
   denied = edgeRows (denies body);

@@ -13,11 +13,10 @@ pub struct Edges {
     pub fall: [u64; 64],
 }
 
-// What a body's blocks, effects and edges say by themselves, with no path looked at: which blocks are tests; where
+// What a body's blocks, effects and edges say by themselves, with no path looked at: where
 // each block's ways lead; the tests that it touches; the edges that its effects deny; the edges that its edge by
 // jump, and that by fall, conflicts with; and its variable.
 pub struct Local {
-    pub tests: u64,
     pub targets: Targets,
     pub touched: [u64; 64],
     pub denied: Edges,

@@ -3,7 +3,7 @@
 -- (`answered-agree`). Beside it, of what a call owes: where it refuses nothing it has a count (`no-refusal`), and two
 -- calls refuse alike what the reader and the counter refuse (`same-early`). Rests on plan's Owed and Accepted and on
 -- theory's Bound.
-use mathlib.Core.Path.{_≡_, refl, sym, ap, subst, _∙_}
+use mathlib.Core.Path.{_≡_, sym, ap, subst, _∙_}
 use mathlib.Core.Logic.{_⊎_, inl, inr, ⊎-elim}
 use mathlib.Core.Bool.{cond}
 use mathlib.Core.List.{List, _∷_, _++_}

@@ -1,16 +1,15 @@
--- Loops that fill a word bit by bit, upward or downward, and a list place by place: where the loop stands, its start,
+-- Loops that fill a word bit by bit, and a list place by place: where the loop stands, its start,
 -- its turn and its end. Rests on Sets.
-use mathlib.Core.Path.{_≡_, refl, sym, ap, ap₂, _∙_, subst}
+use mathlib.Core.Path.{_≡_, refl, sym, ap, _∙_, subst}
 use mathlib.Core.Logic.{_⊎_, inl, inr}
-use mathlib.Core.Bool.{Bool, true, false, not, _&&_, _||_, and-true, and-false, or-false, or-assoc}
+use mathlib.Core.Bool.{Bool, true, false, _&&_, _||_, and-true, and-false, or-false, or-assoc}
 use mathlib.Core.List.{List, map}
 use Prim.Native.Nat.{ℕ, zero, suc, _+_, _-_, _*_, _^_, _≤_, _<_}
 use native.Mathlib.Nat.{zero-add, pow-suc}
 use native.Mathlib.Numerals.{add-one}
 use native.Mathlib.Omega.{arith}
-use borrow.Author.Tests.{eqb-true, eqb-false, eq-eqb, ne-eqb, ltb-true, ltb-false, lt-ltb, le-ltb, le-leb, lt-leb}
-use borrow.Author.Tests.{leb-true, leb-false}
-use lib.Dec.{eqb, ltb, leb}
+use borrow.Author.Tests.{eqb-true, eqb-false, ltb-true, ltb-false, lt-ltb, le-ltb}
+use lib.Dec.{eqb, ltb}
 use mir.Syntax.{w64}
 use mir.Val.{Fits}
 use lib.ListN.{length, getD, set, length-set}
@@ -46,32 +45,6 @@ module _ (f : ℕ → Bool) where
 
   pub upto-end : (n w : ℕ) → ((j : ℕ) → n ≤ j → f j ≡ false) → Upto n w → (j : ℕ) → bit w j ≡ f j
   upto-end n w none inv j = inv j ∙ split (ltb j n) (λ l. rw l) (λ l. rw l (sym (none j (ltb-false j n l))))
-
-  -- the word has the numbers from i on with the test
-  abbrev pub Downto : ℕ → ℕ → Type 0
-  Downto i w = (j : ℕ) → bit w j ≡ (leb i j && f j)
-
-  pub downto-none : (i : ℕ) → ((j : ℕ) → i ≤ j → f j ≡ false) → Downto i 0
-  downto-none i none j = bit-none j ∙ split (leb i j) (λ l. rw l (sym (none j (leb-true i j l)))) (λ l. rw l)
-
-  pub downto-more : (i w v : ℕ) (t : Bool) → Downto (i + 1) w → t ≡ f i
-      → ((j : ℕ) → bit v j ≡ bit w j || (t && eqb j i)) → Downto i v
-  downto-more i w v t inv e new j = new j ∙ ap (λ b. b || (t && eqb j i)) (inv j) ∙ split (eqb j i) here there
-    where
-      here : eqb j i ≡ true → ((leb (i + 1) j && f j) || (t && eqb j i)) ≡ (leb i j && f j)
-      here q =
-          let s = eqb-true j i q in
-          rw (q, lt-leb (i + 1) j (omega arith), le-leb i j (omega arith), e, s) (and-true (f i))
-
-      there : eqb j i ≡ false → ((leb (i + 1) j && f j) || (t && eqb j i)) ≡ (leb i j && f j)
-      there q =
-          let d = eqb-false j i q in
-          rw (q, and-false t, or-false (leb (i + 1) j && f j)) (split (leb i j)
-          (λ l. rw (l, le-leb (i + 1) j (omega (arith, leb-true i j l))))
-          (λ l. rw (l, lt-leb (i + 1) j (omega (arith, leb-false i j l)))))
-
-  pub downto-end : (w : ℕ) → Downto 0 w → (j : ℕ) → bit w j ≡ f j
-  downto-end w inv j = inv j ∙ rw (le-leb 0 j (omega arith))
 
 -- for some number below n + 1: below n, or n itself
 pub any-last : (n : ℕ) (f : ℕ → Bool) → any (n + 1) f ≡ (any n f || f n)

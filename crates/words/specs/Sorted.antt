@@ -1,21 +1,20 @@
 -- Loops over the numbers of a word, least first, and loops that sort numbers into words by a key: where the loop
 -- stands, its start, its turn and its end. Rests on Sets and Filled.
-use mathlib.Core.Path.{_≡_, refl, sym, ap, ap₂, subst, _∙_}
+use mathlib.Core.Path.{_≡_, refl, sym, ap, subst, _∙_}
 use mathlib.Core.Bool.{Bool, true, false, not, _&&_, _||_, and-true, and-false, or-false}
 use mathlib.Core.List.{List}
-use mathlib.Core.Logic.{_⊎_, inl, inr}
-use Prim.Native.Nat.{ℕ, zero, suc, _+_, _^_, _≤_, _<_}
+use Prim.Native.Nat.{ℕ, _+_, _^_, _≤_, _<_}
 use native.Mathlib.Omega.{arith}
 use borrow.Author.Tests.{eqb-true, eqb-false, ne-eqb}
 use lib.Count.{trailingZeros}
 use lib.Dec.{eqb}
 use lib.ListN.{length, getD, set, replicate, length-set, length-replicate, getD-replicate}
 use lib.Seq.{getD-set-same, getD-set-other}
-use Rattle.laws.specs.Terms.{bit, any}
-use Rattle.laws.specs.Tests.{split, clash, any-in, eqb-swap}
-use Rattle.laws.specs.Sets.{bit-none, trailing-lt, trailing-at, trailing-below, below-or-not}
+use Rattle.laws.specs.Terms.{bit}
+use Rattle.laws.specs.Tests.{split, eqb-swap}
+use Rattle.laws.specs.Sets.{bit-none, trailing-lt, trailing-at}
 use Rattle.words.specs.Tabled.{least}
-use Rattle.words.specs.Filled.{Upto, upto-none, upto-more, upto-end, any-last}
+use Rattle.words.specs.Filled.{Upto, upto-none, upto-more, upto-end}
 
 pub least-some : (x : ℕ) → 0 < x → least x ≡ trailingZeros 64 x
 least-some x some = rw (ne-eqb x 0 (λ e. not-zero some e))
@@ -126,39 +125,3 @@ module _ (n : ℕ) (key : ℕ → ℕ) (test : ℕ → Bool) where
       (i : ℕ) (l : List ℕ) → ((j : ℕ) → i ≤ j → test j ≡ false) → Sorted n key test i l → (v : ℕ) → v < n → (j : ℕ)
       → bit (getD l v 0) j ≡ (test j && eqb (key j) v)
   sorted-end i l off s v h = upto-end (λ j. test j && eqb (key j) v) i (getD l v 0) (λ j m. rw (off j m)) (s .at v h)
-
--- ---- a word's least number
-
-positive : (x : ℕ) → (x ≡ 0 → ⊥) → 0 < x
-positive zero differ = absurd (differ refl)
-positive (suc x) differ = omega arith
-
-beyond : (a b : ℕ) → b ≤ a → (a ≡ b → ⊥) → b < a
-beyond a b l differ = omega arith
-
--- Below b + 1 there is one: below b, or b is the least.
-pub any-least : (x b at : ℕ) → x < 2 ^ 64 → (0 < x → at ≡ trailingZeros 64 x)
-    → any (b + 1) (bit x) ≡ (any b (bit x) || (not (eqb x 0) && eqb at b))
-any-least x b at fits least = any-last b (bit x) ∙ split (eqb x 0) none some
-  where
-    none : eqb x 0 ≡ true → (any b (bit x) || bit x b) ≡ (any b (bit x) || (not (eqb x 0) && eqb at b))
-    none q = let zero = eqb-true x 0 q in rw (q, zero, bit-none b)
-
-    some : eqb x 0 ≡ false → (any b (bit x) || bit x b) ≡ (any b (bit x) || (not (eqb x 0) && eqb at b))
-    some q = split (any b (bit x)) (λ e. rw e) (λ e. rw (e, q) (last e))
-      where
-        is : at ≡ trailingZeros 64 x
-        is = least (positive x (eqb-false x 0 q))
-
-        there : bit x at ≡ true
-        there = subst (λ (k : ℕ). bit x k ≡ true) (sym is)
-            (trailing-at 64 x (trailing-lt 64 fits (positive x (eqb-false x 0 q))))
-
-        last : any b (bit x) ≡ false → bit x b ≡ eqb at b
-        last e = split (eqb at b)
-            (λ m. let same = eqb-true at b m in rw (m, ← same) there)
-            (λ m. rw m (off (eqb-false at b m) (below-or-not at b)))
-          where
-            off : (at ≡ b → ⊥) → (at < b) ⊎ (b ≤ at) → bit x b ≡ false
-            off differ (inl l) = absurd (clash (any-in b (bit x) at l there) e)
-            off differ (inr l) = trailing-below 64 x b (subst (λ (k : ℕ). b < k) is (beyond at b l differ))

@@ -1,5 +1,4 @@
 -- `desk::somniaret_count` meets its contract: what `count` owes, of the numbers that this was asked with.
-use borrow.Author.Needs.{needs}
 use mathlib.Core.Path.{sym, subst}
 use mir.Facts.{toZ-ofZ}
 use Rattle.counter.specs.Answer.{Values, Owed, said}

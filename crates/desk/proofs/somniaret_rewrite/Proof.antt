@@ -1,6 +1,6 @@
 -- `desk::somniaret_rewrite` meets its contract: a refused form is answered by its verdict, an accepted one by the
 -- writer.
-use mathlib.Core.Bool.{Bool, true}
+use mathlib.Core.Bool.{true}
 use mathlib.Core.Path.{_≡_, ap, sym, _∙_}
 use borrow.Author.Tests.{not-true, not-false}
 use lib.ListN.{length}

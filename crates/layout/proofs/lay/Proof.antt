@@ -1,7 +1,7 @@
 -- `layout::lay` meets its contract. The loop's invariant: what is laid out so far, with the blocks to come, is the
 -- whole; the effects used so far, with the own effects of the blocks to come, are all; and the place goes with both
 -- counts. The measure is the blocks to come.
-use mathlib.Core.List.{List, [], _++_}
+use mathlib.Core.List.{List, _++_}
 use mathlib.Core.Path.{_≡_, refl, sym, ap, _∙_}
 use Prim.Native.Nat.{ℕ, suc, _+_, _*_, _≤_, _<_, _-_}
 use native.Mathlib.Numerals.{add-one}

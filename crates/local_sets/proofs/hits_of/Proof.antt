@@ -4,7 +4,7 @@ use mathlib.Core.Path.{_≡_}
 use mathlib.Core.List.{List}
 use Prim.Native.Nat.{ℕ, _+_, _-_, _≤_, _<_}
 use native.Mathlib.Omega.{arith}
-use lib.ListN.{length, getD, take, drop}
+use lib.ListN.{getD, take, drop}
 use Rattle.form.specs.declared.Effect.{Effect}
 use Rattle.form.specs.Form.{zeroEffect}
 use Rattle.lower_laws.specs.Effects.{take-next}

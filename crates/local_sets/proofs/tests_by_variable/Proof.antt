@@ -3,7 +3,7 @@
 use mathlib.Core.Path.{refl}
 use Prim.Native.Nat.{_-_, _≤_}
 use native.Mathlib.Omega.{arith}
-use lib.ListN.{getD, length}
+use lib.ListN.{getD}
 use Rattle.laws.specs.Terms.{bit}
 use Rattle.words.specs.Sorted.{Sorted, sorted-none, sorted-more}
 use Rattle.local_sets.specs.Sorting.{on-variable-end}

@@ -1,5 +1,5 @@
 -- `verdict::bad_target` meets its contract: a block's targets are looked at, and nothing else.
-use mathlib.Core.Bool.{false, _&&_}
+use mathlib.Core.Bool.{false}
 use mathlib.Core.List.{List}
 use mathlib.Core.Path.{_≡_, sym, ap, _∙_}
 use Prim.Native.Nat.{ℕ}

@@ -1,5 +1,4 @@
 -- `verdict::end_fault` meets its contract: a block's ending and targets are looked at, and nothing else.
-use mathlib.Core.Bool.{_&&_}
 use mathlib.Core.List.{List}
 use mathlib.Core.Path.{_≡_, sym, ap, _∙_}
 use Prim.Native.Nat.{ℕ}

@@ -1,5 +1,4 @@
 -- `words::only` meets its contract.
-use mathlib.Core.Path.{refl, sym}
 use Rattle.laws.specs.Sets.{bit-none}
 use Rattle.words.proofs.only.Statement.{statement}
 use Rattle.words.proofs.only.Tie as tie
