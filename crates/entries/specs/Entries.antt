@@ -15,7 +15,7 @@ use lib.Seq.{getD-set-same, getD-set-other}
 use borrow.Author.Tests.{eqb-true, eq-eqb, ltb-true, ltb-false, lt-ltb}
 use Rattle.laws.specs.Terms.{Mem, heavier}
 use Rattle.laws.specs.Tests.{split, clash, and-out, and-in}
-use Rattle.laws.specs.Rows.{insert, insert-past, insert-before, insert-at}
+use Rattle.laws.specs.Rows.{keepBetter, insert, insertKeeping, insert-past, insert-before, insert-at}
 use Rattle.theory.specs.Row.{Key, keyBefore}
 use Rattle.theory.specs.Answer.{key-order}
 use Rattle.theory.specs.SweepWords.{Words, betterWords}
@@ -43,6 +43,9 @@ entriesFrom l i (suc n) = entryAt l i ∷ entriesFrom l (suc i) n
 -- the better by weight, and on equal weight the first tail
 abbrev pub betterOf : Words → Words → Bool
 betterOf = betterWords 64 heavier
+
+abbrev pub keepBest : (new old : Words) → Words
+keepBest = keepBetter betterOf
 
 -- the row with one entry more
 abbrev pub inserted : Key × Words → List (Key × Words) → List (Key × Words)
@@ -108,7 +111,7 @@ module _ (l m : List ℕ) (e : Key × Words) (p : ℕ) (lower : (i : ℕ) → i 
     (alike : Alike l m (5 * p) 0 0) where
   past : (r : List (Key × Words)) → inserted e (entriesFrom l 0 p ++ r) ≡ entriesFrom m 0 p ++ inserted e r
   past r =
-      insert-past keyBefore betterOf key-order e (entriesFrom l 0 p) r
+      insert-past keyBefore keepBest key-order e (entriesFrom l 0 p) r
       (λ x i. let (k, b, q) = entry-in l 0 p x i in subst (λ (y : Key × Words). keyBefore (y .0) (e .0) ≡ true)
       (sym (q ∙ ap (entryAt l) (zero-add k))) (lower k b))
       ∙ ap (λ a. a ++ inserted e r) (entries-alike l m p 0 0 alike)
@@ -124,9 +127,9 @@ module _ (l m : List ℕ) (e : Key × Words) (p : ℕ) (lower : (i : ℕ) → i 
   behind q = ap (inserted e) (parted l q) ∙ past (tail-of l q)
 
   front : (q : ℕ) → (0 < q → keyBefore (e .0) (entryAt l p .0) ≡ true) → inserted e (tail-of l q) ≡ e ∷ tail-of l q
-  unfolding entriesFrom insert
+  unfolding entriesFrom insertKeeping
   front zero h = refl
-  front (suc q) h = insert-before keyBefore betterOf key-order e (entryAt l p) (entriesFrom l (suc p) q)
+  front (suc q) h = insert-before keyBefore keepBest key-order e (entryAt l p) (entriesFrom l (suc p) q)
       (h (omega arith))
 
   -- a new key in front of q higher entries
@@ -146,16 +149,18 @@ module _ (l m : List ℕ) (e : Key × Words) (p : ℕ) (lower : (i : ℕ) → i 
       ∙ sym (inserted-absent q higher)
 
   -- at its own key
-  pub inserted-at : (q : ℕ) → e .0 ≡ entryAt l p .0 → entryAt m p ≡ cond (betterOf (e .1) (entryAt l p .1)) e
-      (entryAt l p) → Alike m l (5 * q) (5 * suc p) (5 * suc p)
+  abbrev kept-at : Key × Words
+  kept-at = (entryAt l p .0, keepBest (e .1) (entryAt l p .1))
+
+  pub inserted-at : (q : ℕ) → e .0 ≡ entryAt l p .0 → entryAt m p ≡ kept-at
+      → Alike m l (5 * q) (5 * suc p) (5 * suc p)
       → entriesFrom m 0 (p + suc q) ≡ inserted e (entriesFrom l 0 (p + suc q))
   unfolding entriesFrom
   inserted-at q same put kept =
       parted m (suc q)
       ∙ ap (λ x. entriesFrom m 0 p ++ (x ∷ entriesFrom m (suc p) q)) put
-      ∙ ap (λ r. entriesFrom m 0 p ++ (cond (betterOf (e .1) (entryAt l p .1)) e (entryAt l p) ∷ r))
-      (entries-alike m l q (suc p) (suc p) kept)
-      ∙ ap (λ r. entriesFrom m 0 p ++ r) (sym (insert-at keyBefore betterOf key-order e (entryAt l p)
+      ∙ ap (λ r. entriesFrom m 0 p ++ (kept-at ∷ r)) (entries-alike m l q (suc p) (suc p) kept)
+      ∙ ap (λ r. entriesFrom m 0 p ++ r) (sym (insert-at keyBefore keepBest key-order e (entryAt l p)
       (entriesFrom l (suc p) q) same))
       ∙ sym (behind (suc q))
 
@@ -350,13 +355,18 @@ module _ (l : List ℕ) (e : Key × Words) (p n : ℕ) (place : Place l n (e .0)
       at-least : p + suc (n - suc p) ≡ n
       at-least = omega arith
 
+      -- of two entries of one key, by their values
+      one-of : (b : Bool) → cond b e (entryAt l p) ≡ (entryAt l p .0, cond b (e .1) (entryAt l p .1))
+      one-of true = λ i. (sym same i, e .1)
+      one-of false = refl
+
       held : (b : Bool) → betterOf (e .1) (entryAt l p .1) ≡ b → (m : List ℕ) → entryAt m p ≡ cond b e (entryAt l p) →
           ((k : ℕ) → k < 5 * p → getD m k 0 ≡ getD l k 0)
           → ((k : ℕ) → 5 * suc p ≤ k → getD m k 0 ≡ getD l k 0) → entriesFrom m 0 n ≡ inserted e (entriesFrom l 0 n)
       held b v m put low high =
           subst (λ (n : ℕ). entriesFrom m 0 n ≡ inserted e (entriesFrom l 0 n)) at-least
           (inserted-at l m e p (place .lower) (λ k i. rw (zero-add k) (sym (low k i))) (n - suc p) (sym same)
-          (put ∙ ap (λ b. cond b e (entryAt l p)) (sym v)) (λ k i. high (5 * suc p + k) (omega arith)))
+          (put ∙ one-of b ∙ ap (λ b. (entryAt l p .0, cond b (e .1) (entryAt l p .1))) (sym v)) (λ k i. high (5 * suc p + k) (omega arith)))
 
       by : (b : Bool) → betterOf (e .1) (entryAt l p .1) ≡ b → Grown (inserted e (entriesFrom l 0 n)) l
           (cond b (entryPut l p e) l) n

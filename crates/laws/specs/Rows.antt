@@ -1,4 +1,5 @@
--- Rows: lists of keyed values with ascending keys, built by insertion that keeps the better value of a key.
+-- Rows: lists of keyed values with ascending keys, built by insertion that makes one value of two of a key
+-- (`insertKeeping`), as a rule the better (`insert`).
 -- `Covers l r` says that r has only entries of l and, for each entry of l, one of its key that is as good; an ascending
 -- list that covers l is the only one (`row-unique`). A step in front of each entry (`ext`) keeps it. Rests on Orders
 -- and Lists.
@@ -26,20 +27,26 @@ module _ {K B : Type 0} (bt : B → B → Bool) where
     pub from : (e : K × B) → Mem e r → Mem e l
     pub best : (e : K × B) → Mem e l → (d : K × B) × Mem d r × Dom e d
 
-  -- the insertion
-  abbrev pub keepOf : K × B → K × B → K × B
-  keepOf e x = cond (bt (e .1) (x .1)) e x
+-- ---- the insertion
 
-module _ {K B : Type 0} (lt : K → K → Bool) (bt : B → B → Bool) where
+module _ {K B : Type 0} (lt : K → K → Bool) (keep : (new old : B) → B) where
   -- the tests: the new key is before, after
   abbrev pub place : Bool → Bool → K × B → K × B → List (K × B) → List (K × B) → List (K × B)
   place true b e x r i = e ∷ x ∷ r
   place false true e x r i = x ∷ i
-  place false false e x r i = keepOf bt e x ∷ r
+  place false false e x r i = (x .0, keep (e .1) (x .1)) ∷ r
 
-  unfoldable pub insert : K × B → List (K × B) → List (K × B)
-  insert e [] = e ∷ []
-  insert e (x ∷ r) = place (lt (e .0) (x .0)) (lt (x .0) (e .0)) e x r (insert e r)
+  unfoldable pub insertKeeping : K × B → List (K × B) → List (K × B)
+  insertKeeping e [] = e ∷ []
+  insertKeeping e (x ∷ r) = place (lt (e .0) (x .0)) (lt (x .0) (e .0)) e x r (insertKeeping e r)
+
+-- the better of two, and the old one where neither is
+abbrev pub keepBetter : {B : Type 0} → (B → B → Bool) → (new old : B) → B
+keepBetter bt new old = cond (bt new old) new old
+
+module _ {K B : Type 0} (lt : K → K → Bool) (bt : B → B → Bool) where
+  abbrev pub insert : K × B → List (K × B) → List (K × B)
+  insert = insertKeeping lt (keepBetter bt)
 
   abbrev pub Asc : List (K × B) → Type 0
   Asc [] = Unit {0}
@@ -88,27 +95,29 @@ module _ {K B : Type 0} (lt : K → K → Bool) (bt : B → B → Bool) where
         bs y (inr m) = (y, m, dom-refl y)
 
     covers-keep : (b : Bool) (e x : K × B) (r : List (K × B)) → bt (e .1) (x .1) ≡ b → e .0 ≡ x .0
-        → Covers bt (e ∷ x ∷ r) (cond b e x ∷ r)
+        → Covers bt (e ∷ x ∷ r) ((x .0, cond b (e .1) (x .1)) ∷ r)
     covers-keep true e x r p k =
-        covers-trans _ _ _ (covers-swap e x r) (covers-drop x e r (record { key = k; good = asym oB _ _ p }))
+        let same : e ≡ (x .0, e .1) = λ i. (k i, e .1) in
+        subst (λ (y : K × B). Covers bt (e ∷ x ∷ r) (y ∷ r)) same
+        (covers-trans _ _ _ (covers-swap e x r) (covers-drop x e r (record { key = k; good = asym oB _ _ p })))
     covers-keep false e x r p k = covers-drop e x r (record { key = sym k; good = p })
 
     covers-place : (a b : Bool) (e x : K × B) (r i : List (K × B)) → lt (e .0) (x .0) ≡ a → lt (x .0) (e .0) ≡ b
         → Covers bt (e ∷ r) i
-        → Covers bt (e ∷ x ∷ r) (place a b e x r i)
+        → Covers bt (e ∷ x ∷ r) (place lt (keepBetter bt) a b e x r i)
     covers-place true b e x r i p q c = covers-refl (e ∷ x ∷ r)
     covers-place false true e x r i p q c = covers-trans _ _ _ (covers-swap e x r) (covers-cons x (e ∷ r) i c)
     covers-place false false e x r i p q c = covers-keep _ e x r refl (oK .tri (e .0) (x .0) p q)
 
     pub covers-insert : (e : K × B) (r : List (K × B)) → Covers bt (e ∷ r) (insert e r)
-    unfolding insert
+    unfolding insertKeeping
     covers-insert e [] = covers-refl (e ∷ [])
     covers-insert e (x ∷ r) = covers-place _ _ e x r (insert e r) refl refl (covers-insert e r)
 
     -- the insertion keeps a row ascending
     asc-place : (a b : Bool) (e x : K × B) (r i : List (K × B)) → lt (e .0) (x .0) ≡ a → lt (x .0) (e .0) ≡ b
         → Covers bt (e ∷ r) i
-        → Asc (x ∷ r) → Asc i → Asc (place a b e x r i)
+        → Asc (x ∷ r) → Asc i → Asc (place lt (keepBetter bt) a b e x r i)
     asc-place true b e x r i p q c h g = (up, h)
       where
         up : (y : K × B) → Mem y (x ∷ r) → lt (e .0) (y .0) ≡ true
@@ -119,14 +128,10 @@ module _ {K B : Type 0} (lt : K → K → Bool) (bt : B → B → Bool) where
         up : (y : K × B) → Mem y (e ∷ r) → lt (x .0) (y .0) ≡ true
         up y (inl z) = rw z q
         up y (inr m) = h .0 y m
-    asc-place false false e x r i p q c h g = (λ y m. rw (same (bt (e .1) (x .1))) (h .0 y m), h .1)
-      where
-        same : (b : Bool) → (cond b e x) .0 ≡ x .0
-        same true = oK .tri (e .0) (x .0) p q
-        same false = refl
+    asc-place false false e x r i p q c h g = h
 
     pub asc-insert : (e : K × B) (r : List (K × B)) → Asc r → Asc (insert e r)
-    unfolding insert
+    unfolding insertKeeping
     asc-insert e [] h = (λ y m. absurd m, tt)
     asc-insert e (x ∷ r) h = asc-place _ _ e x r (insert e r) refl refl (covers-insert e r) h (asc-insert e r (h .1))
 
@@ -249,64 +254,77 @@ pub record IsRow {K B : Type 0} (lt : K → K → Bool) (bt : B → B → Bool) 
 
 -- ---- insertion of other values in the place of these, and lengths
 
-module _ {K B C : Type 0} (lt : K → K → Bool) (bt : B → B → Bool) (ct : C → C → Bool) (φ : B → C) where
+module _ {K B C : Type 0} (φ : B → C) where
   abbrev pub across : K × B → K × C
   across e = (e .0, φ (e .1))
 
-  keep-across : (c : Bool) (e x : K × B) → cond c (across e) (across x) ≡ across (cond c e x)
-  keep-across true e x = refl
-  keep-across false e x = refl
+  module _ (lt : K → K → Bool) (keepB : (new old : B) → B) (keepC : (new old : C) → C) where
+    place-across : (a b : Bool) (e x : K × B) (r i : List (K × B))
+        → keepC (φ (e .1)) (φ (x .1)) ≡ φ (keepB (e .1) (x .1))
+        → place lt keepC a b (across e) (across x) (map across r) (map across i)
+        ≡ map across (place lt keepB a b e x r i)
+    place-across true b e x r i h = refl
+    place-across false true e x r i h = refl
+    place-across false false e x r i h = ap (λ v. (x .0, v) ∷ map across r) h
 
-  place-across : (a b : Bool) (e x : K × B) (r i : List (K × B)) → ct (φ (e .1)) (φ (x .1)) ≡ bt (e .1) (x .1)
-      → place lt ct a b (across e) (across x) (map across r) (map across i) ≡ map across (place lt bt a b e x r i)
-  place-across true b e x r i h = refl
-  place-across false true e x r i h = refl
-  place-across false false e x r i h =
-      ap (λ t. t ∷ map across r) (ap (λ c. cond c (across e) (across x)) h ∙ keep-across (bt (e .1) (x .1)) e x)
+    -- where the two keep alike, the insertions go together
+    pub keeping-across : (e : K × B) (r : List (K × B))
+        → ((x : K × B) → Mem x r → keepC (φ (e .1)) (φ (x .1)) ≡ φ (keepB (e .1) (x .1)))
+        → insertKeeping lt keepC (across e) (map across r) ≡ map across (insertKeeping lt keepB e r)
+    unfolding insertKeeping
+    keeping-across e [] h = refl
+    keeping-across e (x ∷ r) h =
+        ap (place lt keepC (lt (e .0) (x .0)) (lt (x .0) (e .0)) (across e) (across x) (map across r))
+        (keeping-across e r (λ y m. h y (inr m)))
+        ∙ place-across (lt (e .0) (x .0)) (lt (x .0) (e .0)) e x r (insertKeeping lt keepB e r) (h x (inl refl))
 
-  -- where the two tests agree, the insertions do
+module _ {K B C : Type 0} (lt : K → K → Bool) (bt : B → B → Bool) (ct : C → C → Bool) (φ : B → C) where
+  better-across : (u v : B) (c : Bool) → bt u v ≡ c → ct (φ u) (φ v) ≡ c
+      → keepBetter ct (φ u) (φ v) ≡ φ (keepBetter bt u v)
+  better-across u v true h k = rw (h, k) refl
+  better-across u v false h k = rw (h, k) refl
+
+  -- where the two tests agree
   pub insert-across : (e : K × B) (r : List (K × B))
       → ((x : K × B) → Mem x r → ct (φ (e .1)) (φ (x .1)) ≡ bt (e .1) (x .1))
-      → insert lt ct (across e) (map across r) ≡ map across (insert lt bt e r)
-  unfolding insert
-  insert-across e [] h = refl
-  insert-across e (x ∷ r) h =
-      ap (place lt ct (lt (e .0) (x .0)) (lt (x .0) (e .0)) (across e) (across x) (map across r))
-      (insert-across e r (λ y m. h y (inr m)))
-      ∙ place-across (lt (e .0) (x .0)) (lt (x .0) (e .0)) e x r (insert lt bt e r) (h x (inl refl))
+      → insert lt ct (across φ e) (map (across φ) r) ≡ map (across φ) (insert lt bt e r)
+  insert-across e r h = keeping-across φ lt (keepBetter bt) (keepBetter ct) e r
+      (λ x m. better-across (e .1) (x .1) (bt (e .1) (x .1)) refl (h x m))
 
-module _ {K B : Type 0} (lt : K → K → Bool) (bt : B → B → Bool) where
+module _ {K B : Type 0} (lt : K → K → Bool) (keep : (new old : B) → B) where
   place-grows : (a b : Bool) (e x : K × B) (r i : List (K × B)) → length r ≤ length i
-      → length (x ∷ r) ≤ length (place lt bt a b e x r i)
+      → length (x ∷ r) ≤ length (place lt keep a b e x r i)
   place-grows true b e x r i h = omega arith
   place-grows false true e x r i h = omega arith
   place-grows false false e x r i h = omega arith
 
   -- an insertion takes no entry away
-  pub insert-grows : (e : K × B) (r : List (K × B)) → length r ≤ length (insert lt bt e r)
-  unfolding insert
+  pub insert-grows : (e : K × B) (r : List (K × B)) → length r ≤ length (insertKeeping lt keep e r)
+  unfolding insertKeeping
   insert-grows e [] = omega arith
-  insert-grows e (x ∷ r) = place-grows (lt (e .0) (x .0)) (lt (x .0) (e .0)) e x r (insert lt bt e r) (insert-grows e r)
+  insert-grows e (x ∷ r) =
+      place-grows (lt (e .0) (x .0)) (lt (x .0) (e .0)) e x r (insertKeeping lt keep e r) (insert-grows e r)
 
 -- ---- where an entry goes
 
-module _ {K B : Type 0} (lt : K → K → Bool) (bt : B → B → Bool) (oK : Order lt) where
+module _ {K B : Type 0} (lt : K → K → Bool) (keep : (new old : B) → B) (oK : Order lt) where
   -- behind the entries of lower keys
   pub insert-past : (e : K × B) (a r : List (K × B)) → ((x : K × B) → Mem x a → lt (x .0) (e .0) ≡ true)
-      → insert lt bt e (a ++ r) ≡ a ++ insert lt bt e r
-  unfolding insert
+      → insertKeeping lt keep e (a ++ r) ≡ a ++ insertKeeping lt keep e r
+  unfolding insertKeeping
   insert-past e [] r h = refl
   insert-past e (x ∷ a) r h =
       let l : lt (x .0) (e .0) ≡ true = h x (inl refl) in
       rw (asym oK (x .0) (e .0) l, l) (ap (λ t. x ∷ t) (insert-past e a r (λ y m. h y (inr m))))
 
   -- in front of the first higher key
-  pub insert-before : (e x : K × B) (r : List (K × B)) → lt (e .0) (x .0) ≡ true → insert lt bt e (x ∷ r) ≡ e ∷ x ∷ r
-  unfolding insert
+  pub insert-before : (e x : K × B) (r : List (K × B)) → lt (e .0) (x .0) ≡ true
+      → insertKeeping lt keep e (x ∷ r) ≡ e ∷ x ∷ r
+  unfolding insertKeeping
   insert-before e x r h = rw h
 
-  -- at its own key, where the better stays
+  -- at its own key
   pub insert-at : (e x : K × B) (r : List (K × B)) → e .0 ≡ x .0
-      → insert lt bt e (x ∷ r) ≡ cond (bt (e .1) (x .1)) e x ∷ r
-  unfolding insert
+      → insertKeeping lt keep e (x ∷ r) ≡ (x .0, keep (e .1) (x .1)) ∷ r
+  unfolding insertKeeping
   insert-at e x r h = rw (h, oK .irr (x .0))

@@ -21,7 +21,7 @@ use Rattle.theory.specs.SweepWords.{Words}
 use Rattle.rows.specs.declared.Side.{Side}
 use Rattle.theory.specs.Plan.{costAt, IsWay}
 use Rattle.rows.specs.declared.Tails.{Tails}
-use Rattle.entries.specs.Entries.{entryOf, entryAt, inserted, entriesFrom, betterOf, Grown, entries-length}
+use Rattle.entries.specs.Entries.{entryOf, entryAt, inserted, entriesFrom, betterOf, keepBest, Grown, entries-length}
 use Rattle.rows.specs.Steps.{sideOf, hitsOf, openedOf, stepKey, stepWords}
 
 -- the row with an entry's longer tail, or the row where the step drops it
@@ -79,7 +79,7 @@ module _ (jumps falls : Side) (cost : ℕ) where
     where
       by : (o : Option Key) → length r ≤ length (push keyBefore betterOf o (stepWords jumps falls cost (e .1)) r)
       by none = le-refl (length r)
-      by (some k) = insert-grows keyBefore betterOf (k, stepWords jumps falls cost (e .1)) r
+      by (some k) = insert-grows keyBefore keepBest (k, stepWords jumps falls cost (e .1)) r
 
   pub poured-grows : (l r : List (Key × Words)) → length r ≤ length (poured jumps falls cost l r)
   unfolding pour
