@@ -366,7 +366,8 @@ module _ (l : List ℕ) (e : Key × Words) (p n : ℕ) (place : Place l n (e .0)
       held b v m put low high =
           subst (λ (n : ℕ). entriesFrom m 0 n ≡ inserted e (entriesFrom l 0 n)) at-least
           (inserted-at l m e p (place .lower) (λ k i. rw (zero-add k) (sym (low k i))) (n - suc p) (sym same)
-          (put ∙ one-of b ∙ ap (λ b. (entryAt l p .0, cond b (e .1) (entryAt l p .1))) (sym v)) (λ k i. high (5 * suc p + k) (omega arith)))
+          (put ∙ one-of b ∙ ap (λ b. (entryAt l p .0, cond b (e .1) (entryAt l p .1))) (sym v))
+          (λ k i. high (5 * suc p + k) (omega arith)))
 
       by : (b : Bool) → betterOf (e .1) (entryAt l p .1) ≡ b → Grown (inserted e (entriesFrom l 0 n)) l
           (cond b (entryPut l p e) l) n

@@ -44,7 +44,8 @@ module _ (count jumped fallen : ℕ) where
   bytesBelow b = map (byteOf count jumped fallen) (range 0 b)
 
   pub written-more : (lent held : List ℕ) (at b v : ℕ) → v ≡ byteOf count jumped fallen b
-      → Adds lent at held (at + b) (bytesBelow b) → Adds lent at (set held (at + b) v) (at + (b + 1)) (bytesBelow (b + 1))
+      → Adds lent at held (at + b) (bytesBelow b)
+      → Adds lent at (set held (at + b) v) (at + (b + 1)) (bytesBelow (b + 1))
   written-more lent held at b v e w = record { end = next-end; holds = more .holds }
     where
       next : bytesBelow b ++ (v ∷ []) ≡ bytesBelow (b + 1)

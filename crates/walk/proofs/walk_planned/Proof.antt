@@ -54,7 +54,8 @@ returns-4 c body cost p g size =
     (found .ensures body cost p g size) (a .count) size (a .route .now)
     (c .before .before .before .before .before .before .before .if1 .left) (a .iterations) g
     (c .before .before .before .before .before .if2 .left) (c .before .before .before .before .if3 .left) _
-    (from-first (a .count) _ _ _ _ _ (omega (arith, c .before .before .before .before .before .before .before .if1 .left))
+    (from-first (a .count) _ _ _ _ _
+    (omega (arith, c .before .before .before .before .before .before .before .if1 .left))
     (c .before .before .write-route .ensures))
 
 pub walk-planned-spec : {M : Type 1} → statement M
