@@ -45,7 +45,7 @@ static struct {
 static struct answer {
     uint64_t answered; /* 0 where the library has no such call */
     union {
-        uint64_t all[6];
+        uint64_t all[8];
         struct somniaret_form_answer form;
         struct somniaret_count_answer count;
         struct somniaret_list_answer list;

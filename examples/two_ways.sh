@@ -36,10 +36,10 @@ fi
 # Block 1, at 34, with its target, at 43, made 1.
 { head -c 43 examples/trainer.form; printf '\001'; tail -c +45 examples/trainer.form; } >"$room/refused.form"
 zeros=$(
-    printf '%-10s %12s %12s\n' "" "full walk" sweep
-    for name in iterations weight bound; do printf '%-10s %12d %12d\n' "$name" 0 0; done
-    printf '%-10s %12d %12s\n' walked 0 ""
-    printf '%-10s %12s %12d\n' kept "" 0
+    printf '%-10s %25s %25s\n' "" "full walk" sweep iterations 0 0
+    printf '%-10s %25d\n' walked 0
+    printf '%-10s %25s %25d\n' kept "" 0
+    printf '%-10s %12s %12s %12s %12s\n' "" dearest cheapest dearest cheapest iteration 0 0 0 0 "whole loop" 0 0 0 0
 )
 both=$(cat examples/two_ways.out)
 over=$(cat examples/two_ways_over.out)

@@ -55,8 +55,11 @@
 extern "C" {
 #endif
 
-/* The most blocks of a form, and so the most bytes of a route. */
+/* The most blocks of a form. */
 #define SOMNIARET_MOST_BLOCKS 64
+
+/* The most bytes that two routes have, one for each block in each. */
+#define SOMNIARET_ROUTES_BYTES 128
 
 /* The bytes of an entry in a list of conflicts. */
 #define SOMNIARET_LIST_ENTRY_BYTES 5
@@ -71,11 +74,13 @@ struct somniaret_way {
     uint64_t fallen; /* the blocks left by fall */
 };
 
-/* An entry of the sweep's table: a pair of sets of open edges, and of the heaviest tails with just these the first. */
+/* An entry of the sweep's table: a pair of sets of open edges, and of the tails with just these the first of the
+   heaviest and the first of the lightest. */
 struct somniaret_entry {
     uint64_t jumps; /* the blocks whose jump edge is open */
     uint64_t falls; /* the blocks whose fall edge is open */
-    struct somniaret_way way;
+    struct somniaret_way heaviest;
+    struct somniaret_way lightest;
 };
 
 struct somniaret_form_answer {
@@ -98,19 +103,23 @@ struct somniaret_list_answer {
 struct somniaret_walk_answer {
     uint64_t number;
     uint64_t place;
-    uint64_t iterations; /* how often the body runs */
-    uint64_t weight;     /* the sum of the costs on the route */
-    uint64_t bound;      /* iterations times weight */
-    uint64_t walked;     /* conflict-free beginnings of routes, that of block 0 alone included */
+    uint64_t iterations;  /* how often the body runs */
+    uint64_t weight;      /* the sum of the costs on the heaviest route */
+    uint64_t bound;       /* iterations times weight */
+    uint64_t least;       /* the sum of the costs on the lightest route */
+    uint64_t least_total; /* iterations times least */
+    uint64_t walked;      /* conflict-free beginnings of routes, that of block 0 alone included */
 };
 
 struct somniaret_sweep_answer {
     uint64_t number;
     uint64_t place;
-    uint64_t iterations; /* how often the body runs */
-    uint64_t weight;     /* the sum of the costs on the route */
-    uint64_t bound;      /* iterations times weight */
-    uint64_t kept;       /* entries of the longest row, 1 to 64 */
+    uint64_t iterations;  /* how often the body runs */
+    uint64_t weight;      /* the sum of the costs on the heaviest route */
+    uint64_t bound;       /* iterations times weight */
+    uint64_t least;       /* the sum of the costs on the lightest route */
+    uint64_t least_total; /* iterations times least */
+    uint64_t kept;        /* entries of the longest row, 1 to 64 */
 };
 
 /* Are these `len` bytes a form?
@@ -140,30 +149,34 @@ struct somniaret_list_answer somniaret_conflicts(const uint8_t *form, size_t len
    Returns 1 where they conflict and 0 where they do not. */
 uint8_t somniaret_pair(uint8_t relation1, int32_t constant1, uint8_t relation2, int32_t constant2);
 
-/* The heaviest conflict-free route through a form's body, by trying every one: the full walk. Its time grows with what is
-   walked, which doubles with every further branch at worst; `budget` is the most that may be walked.
-   Number 0: the first bytes of `route`, one for each block of the body, are the route: 0 not on it, 1 left by jump or go,
-   2 left by fall, 3 the last block. Of routes that weigh the same it is the first, where jump comes before fall.
-   Refusals: 10 to 20, 42, 41, 43. A route of SOMNIARET_MOST_BLOCKS bytes is never too short. */
-struct somniaret_walk_answer somniaret_walk(const uint8_t *form, size_t len, uint32_t budget, uint8_t *route,
-                                            size_t route_len);
+/* The dearest and the cheapest iteration: the heaviest and the lightest conflict-free route through a form's body, by
+   trying every one, the full walk. Its time grows with what is walked, which doubles with every further branch at
+   worst; `budget` is the most that may be walked.
+   Number 0: `routes` begins with the heaviest route, and the lightest follows at once. Each has a byte for each block
+   of the body: 0 not on it, 1 left by jump or go, 2 left by fall, 3 the last block; so the first 3 ends the heaviest.
+   Of routes that weigh the same it is the first, where jump comes before fall.
+   Refusals: 10 to 20, 42 (under two bytes a block), 41, 43. SOMNIARET_ROUTES_BYTES bytes are never too few. */
+struct somniaret_walk_answer somniaret_walk(const uint8_t *form, size_t len, uint32_t budget, uint8_t *routes,
+                                            size_t routes_len);
 
-/* The same route by the sweep, which goes through the blocks from the last to the first and keeps for each the heaviest
-   tail for every different set of open edges. Its table has room for 24 blocks and is on the stack.
-   Number 0: the first bytes of `route` are the route, as somniaret_walk writes it.
-   Refusals: 10 to 20, 42, 44 (from 25 blocks on, with 64 entries a block as the place), 40, 43. */
-struct somniaret_sweep_answer somniaret_sweep(const uint8_t *form, size_t len, uint8_t *route, size_t route_len);
+/* The same routes by the sweep, which goes through the blocks from the last to the first and keeps for each the
+   heaviest and the lightest tail for every different set of open edges. Its table has room for 16 blocks and is on the
+   stack.
+   Number 0: `routes` begins with the two routes, as somniaret_walk writes them.
+   Refusals: 10 to 20, 42 (under two bytes a block), 44 (from 17 blocks on, with 64 entries a block as the place), 40,
+   43. */
+struct somniaret_sweep_answer somniaret_sweep(const uint8_t *form, size_t len, uint8_t *routes, size_t routes_len);
 
 /* The sweep with a lent table of `entries` entries. Block b's row is SOMNIARET_ROW_ENTRIES entries, from entry
    SOMNIARET_ROW_ENTRIES * b on. They ascend by jump set, then fall set; what is left of the row is zero.
-   Number 0: the rows of all blocks are complete, the entries past them are as they were, and the first bytes of `route` are
-   the route, as somniaret_walk writes it.
-   Refusals: 10 to 20, 42, 44 (under SOMNIARET_ROW_ENTRIES entries a block), 40, 43. The table is unchanged, except: with 40
-   at block b the rows of higher blocks are complete, and row b and those of lower blocks are as they were; with 43 all rows
-   are complete. The route is unchanged.
+   Number 0: the rows of all blocks are complete, the entries past them are as they were, and `routes` begins with the
+   two routes, as somniaret_walk writes them.
+   Refusals: 10 to 20, 42 (under two bytes a block), 44 (under SOMNIARET_ROW_ENTRIES entries a block), 40, 43. The table
+   is unchanged, except: with 40 at block b the rows of higher blocks are complete, and row b and those of lower blocks
+   are as they were; with 43 all rows are complete. The routes are unchanged.
    SOMNIARET_MOST_BLOCKS * SOMNIARET_ROW_ENTRIES entries are never too few. */
 struct somniaret_sweep_answer somniaret_sweep_table(const uint8_t *form, size_t len, struct somniaret_entry *table,
-                                                    size_t entries, uint8_t *route, size_t route_len);
+                                                    size_t entries, uint8_t *routes, size_t routes_len);
 
 #ifdef __cplusplus
 }

@@ -19,6 +19,21 @@ with_bytes 43 '\001' >"$room/16.form"   # block 1, at 34, with its target, at 43
 with_bytes 2 '\011' >"$room/12.form"    # the counter with kind 9
 with_bytes 4 '\012\0\0\0\0\0\0\0\0\012' >"$room/20.form" # counter 10, 0, =, 10
 head -c 19 examples/trainer.form >"$room/10.form"
+# The trainer's counter and so many blocks of cost 1, each of which goes to the next: chain BLOCKS. Its route: chain_route BLOCKS.
+chain() {
+    local next
+    head -c 17 examples/trainer.form
+    for ((next = 1; next < $1; next++)); do printf '%b' "\\021\\0\\002\\0\\001\\0\\0\\0\\001\\x$(printf %02x "$next")\\0\\0\\0\\0\\0\\0\\0"; done
+    printf '%b' '\021\0\002\0\001\0\0\0\0\0\0\0\0\0\0\0\0'
+}
+chain_route() {
+    local block
+    for ((block = 0; block < $1 - 1; block++)); do printf ' %dJ' "$block"; done
+    printf ' %dE' "$block"
+}
+chain 16 >"$room/16 blocks.form"
+chain 17 >"$room/17 blocks.form"
+sixteen=$(printf 'blocks 16\niterations 10\nconflicts 0\nweight 16\nbound 160\nroute%s\nleast 16\nleast route%s\nkept 1\nwalked 16' "$(chain_route 16)" "$(chain_route 16)")
 # A path with the usual tools and without rt.
 mkdir "$room/bin"
 for tool in bash env cat dirname readlink find mktemp; do ln -s "$(command -v "$tool")" "$room/bin/$tool"; done
@@ -34,6 +49,8 @@ try "an unknown kind" 0 $'refused 12 at 0\n' "somniaret: refusal 12: unknown kin
 try "a form cut short" 0 $'refused 10 at 17\n' "somniaret: refusal 10: " ./somniaret "$room/10.form"
 try "no loop count" 0 $'refused 20 at 0\n' "somniaret: refusal 20: no loop count exists" ./somniaret "$room/20.form"
 try "an empty file" 0 $'refused 17 at 0\n' "somniaret: refusal 17: no counter or no block at the end: the input has 0 bytes" ./somniaret /dev/null
+try "16 blocks" 0 "$sixteen"$'\n' "" ./somniaret "$room/16 blocks.form"
+try "17 blocks" 0 $'refused 44 at 1088\n' "1088 entries needed, and the program's table has 1024" ./somniaret "$room/17 blocks.form"
 try "no form" 2 "" "usage: ./somniaret FORM" ./somniaret
 try "two forms" 2 "" "usage: ./somniaret FORM" ./somniaret examples/trainer.form examples/figure1.form
 try "help and a form" 2 "" "usage: ./somniaret FORM" ./somniaret --help examples/trainer.form

@@ -1,14 +1,14 @@
 //! The desk's calls on bytes: the answer, or the refusal in the document's order, and what lent memory then holds.
 //!
 //! A refusal changes no lent memory but what the document excepts (40 and 43 from the sweep). On success the bytes
-//! past the written list or route, and the rows past the last block, are unchanged.
+//! past the written list or the two routes, and the rows past the last block, are unchanged.
 
 use std::cell::OnceCell;
 
 use crate::conflict::{conditions_conflict, conflict_list, list_bytes, Condition, Entry};
 use crate::counter;
 use crate::form::{self, Body, Refusal, HIGHEST_RELATION};
-use crate::routes::{heaviest_route, walked, Route};
+use crate::routes::{routes, walked, Routes};
 use crate::rows::{swept, RowEntry, Swept, ROW_ENTRIES};
 use crate::ways::ways_to_list;
 
@@ -33,6 +33,8 @@ pub struct WalkAnswer {
     pub count: u64,
     pub weight: u64,
     pub bound: u64,
+    pub least: u64,
+    pub least_total: u64,
     pub walked: u64,
 }
 
@@ -41,6 +43,8 @@ pub struct SweepAnswer {
     pub count: u64,
     pub weight: u64,
     pub bound: u64,
+    pub least: u64,
+    pub least_total: u64,
     pub kept: u64,
 }
 
@@ -50,7 +54,7 @@ pub struct Listing {
     body: Result<Body, Refusal>,
     list: OnceCell<Vec<Entry>>,
     walked: OnceCell<u64>,
-    heaviest: OnceCell<Option<Route>>,
+    routes: OnceCell<Option<Routes>>,
     swept: OnceCell<Swept>,
 }
 
@@ -60,7 +64,7 @@ impl Listing {
             body: form::read(form),
             list: OnceCell::new(),
             walked: OnceCell::new(),
-            heaviest: OnceCell::new(),
+            routes: OnceCell::new(),
             swept: OnceCell::new(),
         }
     }
@@ -84,24 +88,24 @@ impl Listing {
     }
 
     /// The full walk: 10 to 20, 42, 41, 43.
-    pub fn walk(&self, budget: u32, route: &mut [u8]) -> Result<WalkAnswer, NoAnswer> {
+    pub fn walk(&self, budget: u32, out: &mut [u8]) -> Result<WalkAnswer, NoAnswer> {
         let body = self.body()?;
         let count = counter::count(&body.counter)?;
-        refuse_short(42, route.len(), body.block_count)?;
+        refuse_short(42, out.len(), 2 * body.block_count)?;
         let walked = self.walked()?;
         if walked > budget as u64 {
             return Err(Refusal::new(41, budget as usize).into());
         }
-        let weight = self.write_route(route)?;
-        Ok(WalkAnswer { count, weight, bound: count * weight, walked })
+        let (weight, least) = self.write_routes(out)?;
+        Ok(WalkAnswer { count, weight, bound: count * weight, least, least_total: count * least, walked })
     }
 
     /// The sweep over a lent table: 10 to 20, 42, 44, 40, 43. At 40 the rows above the crowded block are complete and
     /// the others unchanged; at 43 all are complete.
-    pub fn sweep(&self, table: &mut [RowEntry], route: &mut [u8]) -> Result<SweepAnswer, NoAnswer> {
+    pub fn sweep(&self, table: &mut [RowEntry], out: &mut [u8]) -> Result<SweepAnswer, NoAnswer> {
         let body = self.body()?;
         let count = counter::count(&body.counter)?;
-        refuse_short(42, route.len(), body.block_count)?;
+        refuse_short(42, out.len(), 2 * body.block_count)?;
         refuse_short(44, table.len(), ROW_ENTRIES * body.block_count)?;
         let swept = self.swept()?;
         for (block, entries) in &swept.rows {
@@ -112,9 +116,9 @@ impl Listing {
         if let Some(block) = swept.crowded {
             return Err(Refusal::new(40, block).into());
         }
-        let weight = self.write_route(route)?;
+        let (weight, least) = self.write_routes(out)?;
         let kept = swept.rows.iter().map(|(_, entries)| entries.len() as u64).max().unwrap();
-        Ok(SweepAnswer { count, weight, bound: count * weight, kept })
+        Ok(SweepAnswer { count, weight, bound: count * weight, least, least_total: count * least, kept })
     }
 
     pub fn list(&self) -> Result<&Vec<Entry>, NoAnswer> {
@@ -132,12 +136,12 @@ impl Listing {
         Ok(self.swept.get_or_init(|| swept(body, list)))
     }
 
-    /// The heaviest route's bytes into `route`; its weight.
-    fn write_route(&self, route: &mut [u8]) -> Result<u64, NoAnswer> {
+    /// The bytes of both routes into `out`; what the heaviest and the lightest weigh.
+    fn write_routes(&self, out: &mut [u8]) -> Result<(u64, u64), NoAnswer> {
         let body = self.body_to_list()?;
-        let heaviest = self.heaviest.get_or_init(|| heaviest_route(body)).as_ref().ok_or(Refusal::new(43, 0))?;
-        route[..body.block_count].copy_from_slice(&heaviest.bytes(body));
-        Ok(heaviest.weight)
+        let routes = self.routes.get_or_init(|| routes(body)).as_ref().ok_or(Refusal::new(43, 0))?;
+        out[..2 * body.block_count].copy_from_slice(&routes.bytes(body));
+        Ok((routes.heaviest.weight, routes.lightest.weight))
     }
 
     /// The body, if its ways are few enough to be listed.
@@ -161,12 +165,12 @@ pub fn conflicts(form: &[u8], out: &mut [u8]) -> Result<usize, NoAnswer> {
     Listing::of(form).conflicts(out)
 }
 
-pub fn walk(form: &[u8], budget: u32, route: &mut [u8]) -> Result<WalkAnswer, NoAnswer> {
-    Listing::of(form).walk(budget, route)
+pub fn walk(form: &[u8], budget: u32, out: &mut [u8]) -> Result<WalkAnswer, NoAnswer> {
+    Listing::of(form).walk(budget, out)
 }
 
-pub fn sweep(form: &[u8], table: &mut [RowEntry], route: &mut [u8]) -> Result<SweepAnswer, NoAnswer> {
-    Listing::of(form).sweep(table, route)
+pub fn sweep(form: &[u8], table: &mut [RowEntry], out: &mut [u8]) -> Result<SweepAnswer, NoAnswer> {
+    Listing::of(form).sweep(table, out)
 }
 
 /// Do two conditions on one variable conflict? A relation above 5 is met by no number.

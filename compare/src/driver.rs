@@ -223,8 +223,8 @@ fn difference(question: &Question, got: &Answer, wanted: &Answer) -> String {
     format!("{question}: answered {:?} as wanted, but the memory is wrong from {place} on", got.numbers)
 }
 
-/// Are the first so many numbers the same, and the route? Nothing is asked where one of the two answers with a number that
-/// the other cannot give.
+/// Are the first so many numbers the same, and both routes? Nothing is asked where one of the two answers with a number
+/// that the other cannot give.
 pub fn agree(
     which: &str,
     two: [&Answer; 2],
@@ -235,7 +235,7 @@ pub fn agree(
     if two.iter().any(|answer| only_one.contains(&answer.numbers[0])) {
         return Ok(());
     }
-    let [one, other] = two.map(|answer| (&answer.numbers[..numbers], &answer.memory.out()[..blocks]));
+    let [one, other] = two.map(|answer| (&answer.numbers[..numbers], &answer.memory.out()[..2 * blocks]));
     let same = if one.0[0] == 0 { one == other } else { one.0 == other.0 };
     same.then_some(()).ok_or_else(|| format!("{which} do not agree: {one:?} and {other:?}"))
 }

@@ -5,6 +5,7 @@ use crate::form::{
     GO, HIGHEST_COST, HIGHEST_RELATION, HIGHEST_VARIABLE, MOST_BLOCKS, MOST_EFFECTS,
 };
 use crate::random::Random;
+use crate::report::OWN_TABLE_BLOCKS;
 
 /// What an input is made to be.
 #[derive(Clone, Copy, Debug, PartialEq, Eq)]
@@ -13,11 +14,14 @@ pub enum Kind {
     Small,
     /// An accepted form with about as many sets of open edges as a row holds, and more.
     Crowding,
-    /// An accepted form of 10 to 24 blocks, seldom up to 64, with few branches.
+    /// An accepted form of 4 to 16 blocks, in threes that part and meet again, with few different costs: of the heaviest
+    /// routes and of the lightest there are often several.
+    Tied,
+    /// An accepted form of 10 to 16 blocks, seldom up to 64, with few branches.
     Long,
     /// An accepted form of 10 to 24 blocks with as many branches as can be listed well: rows of all lengths.
     Branching,
-    /// An accepted form of 18 to 24 blocks, nearly all of which branch: often more ways than can be listed.
+    /// An accepted form of 13 to 24 blocks, nearly all of which branch: often more ways than can be listed.
     Wide,
     /// An accepted form whose records were changed by field, order or number.
     Faulty,
@@ -25,13 +29,14 @@ pub enum Kind {
     Damaged,
     /// Bytes and records by chance.
     Noise,
-    /// At a limit or just past it: none, 64 and 65 blocks, 256 and 257 effects, the longest form and longer.
+    /// At a limit or just past it: none, 16 and 17, 64 and 65 blocks, 256 and 257 effects, the longest form and longer.
     Limit,
 }
 
-pub const KINDS: [Kind; 9] = [
+pub const KINDS: [Kind; 10] = [
     Kind::Small,
     Kind::Crowding,
+    Kind::Tied,
     Kind::Long,
     Kind::Branching,
     Kind::Wide,
@@ -46,6 +51,7 @@ impl Kind {
         match self {
             Kind::Small => "small",
             Kind::Crowding => "crowding",
+            Kind::Tied => "tied",
             Kind::Long => "long",
             Kind::Branching => "branching",
             Kind::Wide => "wide",
@@ -72,6 +78,7 @@ pub fn generate(kind: Kind, seed: u64) -> Vec<u8> {
     match kind {
         Kind::Small => accepted_form(random, small_parts),
         Kind::Crowding => accepted_form(random, crowding_parts),
+        Kind::Tied => accepted_form(random, tied_parts),
         Kind::Long => accepted_form(random, long_parts),
         Kind::Branching => accepted_form(random, branching_parts),
         Kind::Wide => accepted_form(random, wide_parts),
@@ -85,8 +92,9 @@ pub fn generate(kind: Kind, seed: u64) -> Vec<u8> {
 /// What a driver compares at this place of its run, of all kinds but the wide: a kind and a seed of its own.
 pub fn mixed(seed: u64, place: u64) -> (Kind, u64) {
     let shares = [
-        (Kind::Small, 35),
+        (Kind::Small, 30),
         (Kind::Crowding, 4),
+        (Kind::Tied, 5),
         (Kind::Long, 9),
         (Kind::Branching, 1),
         (Kind::Faulty, 22),
@@ -99,15 +107,18 @@ pub fn mixed(seed: u64, place: u64) -> (Kind, u64) {
 
 /// The same of accepted forms only.
 pub fn mixed_accepted(seed: u64, place: u64) -> (Kind, u64) {
-    drawn(&[(Kind::Small, 74), (Kind::Crowding, 10), (Kind::Long, 14), (Kind::Branching, 2)], seed, place)
+    let shares =
+        [(Kind::Small, 66), (Kind::Crowding, 10), (Kind::Tied, 8), (Kind::Long, 14), (Kind::Branching, 2)];
+    drawn(&shares, seed, place)
 }
 
-/// The same with ten small forms in thirteen, one crowding, one long or branching and one of all kinds.
+/// The same with ten small forms in fourteen, one crowding, one tied, one long or branching and one of all kinds.
 pub fn mostly_small(seed: u64, place: u64) -> (Kind, u64) {
-    match place % 13 {
+    match place % 14 {
         0..=9 => drawn(&[(Kind::Small, 1)], seed, place),
         10 => drawn(&[(Kind::Crowding, 1)], seed, place),
-        11 => drawn(&[(Kind::Long, 1), (Kind::Branching, 1)], seed, place),
+        11 => drawn(&[(Kind::Tied, 1)], seed, place),
+        12 => drawn(&[(Kind::Long, 1), (Kind::Branching, 1)], seed, place),
         _ => mixed(seed, place),
     }
 }
@@ -202,8 +213,15 @@ impl Taste {
         let anywhere = random.draw() as i32;
         let centres =
             (0..1 + random.below(2)).map(|_| random.pick(&[0, 0, 5, -3, i32::MIN, i32::MAX, anywhere])).collect();
-        let (lowest_cost, highest_cost) =
-            random.pick(&[(1, 1), (0, 1), (0, 3), (0, 100), (0, HIGHEST_COST), (HIGHEST_COST - 1, HIGHEST_COST)]);
+        let (lowest_cost, highest_cost) = random.pick(&[
+            (0, 0),
+            (1, 1),
+            (0, 1),
+            (0, 3),
+            (0, 100),
+            (0, HIGHEST_COST),
+            (HIGHEST_COST - 1, HIGHEST_COST),
+        ]);
         Taste { variables, centres, lowest_cost, highest_cost }
     }
 
@@ -321,6 +339,36 @@ fn crowding_parts(random: &mut Random) -> Parts {
     parts
 }
 
+/// A branch, its two arms and the next branch, where they meet, up to five times. A cost is mostly that of the other
+/// arm, so that routes weigh the same; tests on one or two variables, and a few effects, strike some of them out.
+fn tied_parts(random: &mut Random) -> Parts {
+    let taste = Taste::drawn(random, 2);
+    let usual = random.pick(&[0, 1, 2, HIGHEST_COST]);
+    let cost = |random: &mut Random| match random.percent(85) {
+        true => usual,
+        false => random.pick(&[0, 1, usual / 2, (2 * usual).min(HIGHEST_COST)]),
+    };
+    let times = 1 + random.below(5);
+    let mut parts = Parts::new();
+    for branch in (0..times).map(|time| 3 * time as u8) {
+        let (jump, fall) = if random.percent(50) { (branch + 1, branch + 2) } else { (branch + 2, branch + 1) };
+        let ending = match random.percent(20) {
+            true => Block::open(0, jump, fall),
+            false => taste.test(random, jump, fall),
+        };
+        let effects = if random.percent(15) { taste.effects(random) } else { vec![] };
+        parts.push((Block { cost: cost(random), ..ending }, effects));
+        for arm in [branch + 1, branch + 2] {
+            // The first arm leads on through the second now and then.
+            let next = if random.percent(10) { arm + 1 } else { branch + 3 };
+            let effects = if random.percent(20) { taste.effects(random) } else { vec![] };
+            parts.push((Block::go(cost(random), next), effects));
+        }
+    }
+    parts.push((Block::end(cost(random)), vec![]));
+    parts
+}
+
 /// What a chain of blocks with branches is made to be.
 struct Chain {
     block_count: usize,
@@ -335,10 +383,11 @@ struct Chain {
 
 fn long_parts(random: &mut Random) -> Parts {
     let block_count = match random.below(20) {
-        0 => 24,
-        1 => 25,
-        2 => 25 + random.below(40),
-        _ => 10 + random.below(15),
+        0 => OWN_TABLE_BLOCKS,
+        1 => OWN_TABLE_BLOCKS + 1,
+        2 => OWN_TABLE_BLOCKS + 1 + random.below(MOST_BLOCKS - OWN_TABLE_BLOCKS),
+        3..=6 => 10 + random.below(15),
+        _ => 10 + random.below(OWN_TABLE_BLOCKS - 9),
     };
     let branches = 2 + random.below(6);
     chain_with_branches(random, Chain { block_count, branches, most_variables: 3, skips: 50, sets: false })
@@ -351,7 +400,7 @@ fn branching_parts(random: &mut Random) -> Parts {
 }
 
 fn wide_parts(random: &mut Random) -> Parts {
-    let block_count = 18 + random.below(7);
+    let block_count = if random.percent(75) { 18 + random.below(7) } else { 13 + random.below(4) };
     let branches = block_count - 1 - random.below(3);
     let skips = random.pick(&[0, 5, 15, 25]);
     chain_with_branches(random, Chain { block_count, branches, most_variables: 6, skips, sets: false })
@@ -575,7 +624,7 @@ fn limit(random: &mut Random) -> Vec<u8> {
     let few = random.below(9);
     let some_blocks = 1 + random.below(MOST_BLOCKS);
     let one_effect = effect_bytes(&Effect::unknown(few as u8));
-    match random.below(18) {
+    match random.below(20) {
         0 => vec![],
         1 => random.bytes(1 + few % 4),
         2 => counter_bytes(&counter),
@@ -609,6 +658,9 @@ fn limit(random: &mut Random) -> Vec<u8> {
             parts[random.below(MOST_BLOCKS - 1)].0 = Block::go(1, target);
             parts_bytes(&counter, &parts)
         }
+        // As many as the table of the report program has room for, and one more.
+        17 => parts_bytes(&counter, &chain(random, OWN_TABLE_BLOCKS, few)),
+        18 => parts_bytes(&counter, &chain(random, OWN_TABLE_BLOCKS + 1, few)),
         // The most that a body can cost: the largest count of iterations over 64 of the dearest blocks.
         _ => {
             let counter = Counter { initial: i32::MIN, step: 1, relation: 2, limit: i32::MAX };

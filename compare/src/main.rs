@@ -98,11 +98,11 @@ fn list(form: &[u8]) -> Result<String, NoAnswer> {
         .collect())
 }
 
-/// Every row, from block 0 up, an entry a line: block, jump set, fall set, weight, set left by jump or go, set left by
-/// fall. At 40 the complete rows, then the refusal.
+/// Every row, from block 0 up, an entry a line: block, jump set, fall set; then of the heaviest tail weight, set left by
+/// jump or go and set left by fall, and the same of the lightest. At 40 the complete rows, then the refusal.
 fn rows(form: &[u8]) -> Result<String, NoAnswer> {
     let mut table = vec![RowEntry::default(); ROW_ENTRIES * MOST_BLOCKS];
-    let refused = match sweep(form, &mut table, &mut [0; MOST_BLOCKS]) {
+    let refused = match sweep(form, &mut table, &mut [0; 2 * MOST_BLOCKS]) {
         Ok(_) => String::new(),
         Err(NoAnswer::Refused(refusal @ Refusal { number: 40 | 43, .. })) => format!("{refusal}\n"),
         Err(other) => return Err(other),
@@ -111,8 +111,8 @@ fn rows(form: &[u8]) -> Result<String, NoAnswer> {
     let body = form::read(form)?;
     let mut text = String::new();
     for (block, row) in swept(&body, &conflict_list(&body)).rows.iter().rev() {
-        for RowEntry { jump_set, fall_set, weight, left_by_jump, left_by_fall } in row {
-            text += &line(&[*block as u64, *jump_set, *fall_set, *weight, *left_by_jump, *left_by_fall]);
+        for entry in row {
+            text += &line(&[&[*block as u64][..], &entry.words()].concat());
         }
     }
     Ok(text + &refused)
@@ -120,7 +120,7 @@ fn rows(form: &[u8]) -> Result<String, NoAnswer> {
 
 /// The number of conflict-free beginnings.
 fn walked(form: &[u8]) -> Result<String, NoAnswer> {
-    let answer = walk(form, u32::MAX, &mut [0; MOST_BLOCKS])?;
+    let answer = walk(form, u32::MAX, &mut [0; 2 * MOST_BLOCKS])?;
     Ok(format!("{}\n", answer.walked))
 }
 

@@ -1,9 +1,10 @@
 //! The memory of a question: a form, a lent table and lent bytes in it, with a pattern in what is lent and around all, so
 //! that it shows afterwards what was written.
 
+use std::array;
 use std::fmt;
 
-use crate::rows::RowEntry;
+use crate::rows::{EntryWords, RowEntry};
 
 /// At least so many bytes stand before and after each part and must stay as they are.
 const GUARD: usize = 32;
@@ -11,8 +12,8 @@ const GUARD: usize = 32;
 /// Each part starts at a multiple of this.
 const ALIGNMENT: usize = 16;
 
-/// An entry of the table is five words.
-const ENTRY_BYTES: usize = 5 * 8;
+/// The bytes of an entry of the table.
+const ENTRY_BYTES: usize = size_of::<EntryWords>();
 
 /// Where a part stands in the memory, in bytes.
 #[derive(Clone, Copy, Debug, PartialEq, Eq)]
@@ -86,22 +87,14 @@ impl Memory {
         let word = |bytes: &[u8], at: usize| u64::from_le_bytes(bytes[8 * at..8 * (at + 1)].try_into().unwrap());
         self.part(self.table)
             .chunks_exact(ENTRY_BYTES)
-            .map(|bytes| RowEntry {
-                jump_set: word(bytes, 0),
-                fall_set: word(bytes, 1),
-                weight: word(bytes, 2),
-                left_by_jump: word(bytes, 3),
-                left_by_fall: word(bytes, 4),
-            })
+            .map(|bytes| RowEntry::of_words(array::from_fn(|at| word(bytes, at))))
             .collect()
     }
 
     pub fn set_entries(&mut self, entries: &[RowEntry]) {
         let in_table = self.part_mut(self.table).chunks_exact_mut(ENTRY_BYTES);
         for (bytes, entry) in in_table.zip(entries) {
-            let RowEntry { jump_set, fall_set, weight, left_by_jump, left_by_fall } = *entry;
-            let words = [jump_set, fall_set, weight, left_by_jump, left_by_fall];
-            bytes.copy_from_slice(words.map(u64::to_le_bytes).as_flattened());
+            bytes.copy_from_slice(entry.words().map(u64::to_le_bytes).as_flattened());
         }
     }
 

@@ -28,18 +28,49 @@ impl Route {
     }
 }
 
-/// The first of the heaviest conflict-free routes, if there is one. Ways come in the document's order, so the first
-/// of equal weights is the one already held.
-pub fn heaviest_route(body: &Body) -> Option<Route> {
-    let mut heaviest: Option<Route> = None;
+/// The dearest and the cheapest iteration.
+#[derive(Clone, Debug, PartialEq, Eq)]
+pub struct Routes {
+    pub heaviest: Route,
+    pub lightest: Route,
+}
+
+impl Routes {
+    /// The heaviest's bytes, then the lightest's.
+    pub fn bytes(&self, body: &Body) -> Vec<u8> {
+        [self.heaviest.bytes(body), self.lightest.bytes(body)].concat()
+    }
+}
+
+/// The heaviest and the lightest conflict-free route, if there is one: what the routes weigh at most and at least, and
+/// then the first of that weight.
+pub fn routes(body: &Body) -> Option<Routes> {
+    let mut least_and_most: Option<(u64, u64)> = None;
     for_each_way(body, 0, |way, _| {
         let weight = weight(body, way);
-        let heavier = heaviest.as_ref().is_none_or(|route| weight > route.weight);
-        if heavier && !has_conflict(&events(body, way)) {
-            heaviest = Some(Route { weight, steps: way.to_vec() });
+        let (least, most) = least_and_most.unwrap_or((u64::MAX, u64::MIN));
+        // What weighs neither less nor more than what was met need not be judged.
+        if (weight < least || weight > most) && is_free(body, way) {
+            least_and_most = Some((least.min(weight), most.max(weight)));
         }
     });
-    heaviest
+    let (least, most) = least_and_most?;
+    Some(Routes { heaviest: first_of_weight(body, most)?, lightest: first_of_weight(body, least)? })
+}
+
+/// The first conflict-free route of this weight: ways come in the document's order.
+fn first_of_weight(body: &Body, wanted: u64) -> Option<Route> {
+    let mut first = None;
+    for_each_way(body, 0, |way, _| {
+        if first.is_none() && weight(body, way) == wanted && is_free(body, way) {
+            first = Some(Route { weight: wanted, steps: way.to_vec() });
+        }
+    });
+    first
+}
+
+pub fn is_free(body: &Body, way: &[Step]) -> bool {
+    !has_conflict(&events(body, way))
 }
 
 /// Walked: the number of conflict-free beginnings of routes, that of block 0 alone included. Each beginning is listed
@@ -50,7 +81,7 @@ pub fn walked(body: &Body) -> u64 {
         for arrival in first_new..way.len() {
             let mut beginning = way[..=arrival].to_vec();
             beginning[arrival].left = None;
-            if !has_conflict(&events(body, &beginning)) {
+            if is_free(body, &beginning) {
                 walked += 1;
             }
         }

@@ -6,9 +6,10 @@
 //!
 //! A question is twelve numbers of 8 bytes, little-endian: which call; four numbers for it; where in the memory the form,
 //! the lent table and the lent bytes start and how many bytes they have; the length of the memory. Then comes the memory.
-//! The answer is seven numbers, 1 or, where the library has no such call, 0, and the call's own, those that it does not
+//! The answer is nine numbers, 1 or, where the library has no such call, 0, and the call's own, those that it does not
 //! give zero; then the memory as it is now.
 
+use std::array;
 use std::fmt;
 use std::io::{self, BufReader, BufWriter, Read, Write};
 use std::process::{Child, ChildStdin, ChildStdout, Command, Stdio};
@@ -47,7 +48,7 @@ impl Call {
 }
 
 /// A call's own numbers in its answer, in the order of `somniaret.h`.
-pub type Numbers = [u64; 6];
+pub type Numbers = [u64; 8];
 
 #[derive(Clone, Debug, PartialEq, Eq)]
 pub struct Question {
@@ -85,7 +86,7 @@ impl Question {
         self
     }
 
-    /// With so many bytes lent for a form, a list or a route, or nothing, which is a null pointer.
+    /// With so many bytes lent for a form, a list or two routes, or nothing, which is a null pointer.
     pub fn out(mut self, bytes: Option<usize>) -> Question {
         self.memory.lend_out(bytes);
         self
@@ -101,7 +102,7 @@ impl Question {
 
     pub fn read_answer(&self, from: &mut impl Read) -> Result<Answer, String> {
         let no_answer = |error| format!("{self}: no answer from the program that has the proved code: {error}");
-        let mut head = [0; 8 * 7];
+        let mut head = [0; 8 + size_of::<Numbers>()];
         from.read_exact(&mut head).map_err(no_answer)?;
         let mut memory = self.memory.clone();
         from.read_exact(memory.bytes_mut()).map_err(no_answer)?;
@@ -109,7 +110,7 @@ impl Question {
         if number(0) == 0 {
             return Err(format!("the library has no {}", self.call.name()));
         }
-        Ok(Answer { numbers: [1, 2, 3, 4, 5, 6].map(number), memory })
+        Ok(Answer { numbers: array::from_fn(|at| number(1 + at)), memory })
     }
 }
 

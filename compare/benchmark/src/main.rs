@@ -1,5 +1,5 @@
-//! How long the proved sweep and full walk take beside a plain Rust sweep and walk of the same method, and how long the proved
-//! conflict list takes.
+//! How long the proved sweep and full walk take beside a plain Rust sweep and walk of the same method, each of which finds
+//! the heaviest and the lightest in one pass, and how long the proved conflict list takes.
 //!
 //!     benchmark [SEED [BODIES]]
 //!
@@ -24,6 +24,7 @@ const ROUNDS: usize = 15;
 const BLOCK_COUNTS: [usize; 2] = [24, 64];
 const LEAST_KEPT: u64 = 16;
 const TABLE: usize = 64 * 64;
+const ROUTES: usize = 2 * 64;
 /// Bodies to walk: how many blocks, from how many beginnings to how many, one in how many of the bodies swept.
 const WALKS: [(usize, u64, u64, usize); 2] = [(12, 30, 300, 1), (25, 1_000_000, 10_000_000, 50)];
 
@@ -36,6 +37,8 @@ struct SweepNumbers {
     iterations: u64,
     weight: u64,
     bound: u64,
+    least: u64,
+    least_total: u64,
     kept: u64,
 }
 
@@ -48,6 +51,8 @@ struct WalkNumbers {
     iterations: u64,
     weight: u64,
     bound: u64,
+    least: u64,
+    least_total: u64,
     walked: u64,
 }
 
@@ -68,16 +73,16 @@ extern "C" {
         form_length: usize,
         table: *mut Entry,
         table_entries: usize,
-        route: *mut u8,
-        route_length: usize,
+        routes: *mut u8,
+        routes_length: usize,
     );
     fn somniaret_walk(
         answer: *mut WalkNumbers,
         form: *const u8,
         form_length: usize,
         budget: u32,
-        route: *mut u8,
-        route_length: usize,
+        routes: *mut u8,
+        routes_length: usize,
     );
     fn somniaret_conflicts(
         answer: *mut ListNumbers,
@@ -90,35 +95,35 @@ extern "C" {
 
 type Sweep = fn(&[u8], &mut [Entry], &mut [u8]) -> Result<Swept, Refusal>;
 
-fn proved(form: &[u8], table: &mut [Entry], route: &mut [u8]) -> Result<Swept, Refusal> {
+fn proved(form: &[u8], table: &mut [Entry], routes: &mut [u8]) -> Result<Swept, Refusal> {
     let mut answer = SweepNumbers::default();
     unsafe {
-        let (entries_lent, bytes_lent) = (table.len(), route.len());
+        let (entries_lent, bytes_lent) = (table.len(), routes.len());
         somniaret_sweep_table(
             &mut answer,
             form.as_ptr(),
             form.len(),
             table.as_mut_ptr(),
             entries_lent,
-            route.as_mut_ptr(),
+            routes.as_mut_ptr(),
             bytes_lent,
         );
     }
-    let SweepNumbers { number, place, iterations, weight, bound, kept } = answer;
+    let SweepNumbers { number, place, iterations, weight, bound, least, least_total, kept } = answer;
     match number {
-        0 => Ok(Swept { iterations, weight, bound, kept }),
+        0 => Ok(Swept { iterations, weight, bound, least, least_total, kept }),
         _ => Err(Refusal { number, place }),
     }
 }
 
 type Walk = fn(&[u8], u32, &mut [u8]) -> Result<Walked, Refusal>;
 
-fn proved_walk(form: &[u8], budget: u32, route: &mut [u8]) -> Result<Walked, Refusal> {
+fn proved_walk(form: &[u8], budget: u32, routes: &mut [u8]) -> Result<Walked, Refusal> {
     let mut answer = WalkNumbers::default();
-    unsafe { somniaret_walk(&mut answer, form.as_ptr(), form.len(), budget, route.as_mut_ptr(), route.len()) };
-    let WalkNumbers { number, place, iterations, weight, bound, walked } = answer;
+    unsafe { somniaret_walk(&mut answer, form.as_ptr(), form.len(), budget, routes.as_mut_ptr(), routes.len()) };
+    let WalkNumbers { number, place, iterations, weight, bound, least, least_total, walked } = answer;
     match number {
-        0 => Ok(Walked { iterations, weight, bound, walked }),
+        0 => Ok(Walked { iterations, weight, bound, least, least_total, walked }),
         _ => Err(Refusal { number, place }),
     }
 }
@@ -126,17 +131,17 @@ fn proved_walk(form: &[u8], budget: u32, route: &mut [u8]) -> Result<Walked, Ref
 /// The lent memory of a sweep, cleared before each.
 struct Lent {
     table: Vec<Entry>,
-    route: [u8; 64],
+    routes: [u8; ROUTES],
 }
 
 impl Lent {
     fn new() -> Lent {
-        Lent { table: vec![Entry::default(); TABLE], route: [0; 64] }
+        Lent { table: vec![Entry::default(); TABLE], routes: [0; ROUTES] }
     }
 
     fn clear(&mut self) {
         self.table.fill(Entry::default());
-        self.route.fill(0);
+        self.routes.fill(0);
     }
 }
 
@@ -146,20 +151,20 @@ fn time(sweep: Sweep, forms: &[Vec<u8>], lent: &mut Lent) -> f64 {
     for form in forms {
         lent.clear();
         let began = Instant::now();
-        let answer = sweep(black_box(form), &mut lent.table, &mut lent.route);
+        let answer = sweep(black_box(form), &mut lent.table, &mut lent.routes);
         nanoseconds += began.elapsed().as_nanos();
-        black_box((&answer, &lent.table, &lent.route));
+        black_box((&answer, &lent.table, &lent.routes));
     }
     nanoseconds as f64 / 1_000.0 / forms.len() as f64
 }
 
 /// Microseconds a body.
 fn time_walk(walk: Walk, forms: &[Vec<u8>]) -> f64 {
-    let mut route = [0; 64];
+    let mut routes = [0; ROUTES];
     let began = Instant::now();
     for form in forms {
-        black_box(&walk(black_box(form), u32::MAX, &mut route));
-        black_box(&route);
+        black_box(&walk(black_box(form), u32::MAX, &mut routes));
+        black_box(&routes);
     }
     began.elapsed().as_nanos() as f64 / 1_000.0 / forms.len() as f64
 }
@@ -170,11 +175,11 @@ fn walks(seed: u64, block_count: usize, fewest: u64, most: u64, bodies: usize) -
     while forms.len() < bodies {
         made += 1;
         let form = bodies::body(block_count, seed ^ (block_count as u64) << 32, made);
-        let (mut one, mut other) = ([0; 64], [0; 64]);
+        let (mut one, mut other) = ([0; ROUTES], [0; ROUTES]);
         let by_proved = proved_walk(&form, most as u32, &mut one);
         let by_plain = plain::walk(&form, most as u32, &mut other);
         if by_proved != by_plain || one != other {
-            println!("body {made} of {block_count} blocks: {by_proved:?} proved, {by_plain:?} plain, or the route differs");
+            println!("body {made} of {block_count} blocks: {by_proved:?} proved, {by_plain:?} plain, or the routes differ");
             return false;
         }
         if let Ok(answer) = by_proved {
@@ -235,9 +240,9 @@ fn main() -> ExitCode {
             let form = bodies::body(block_count, seed ^ (block_count as u64) << 32, made);
             one.clear();
             other.clear();
-            let by_proved = proved(&form, &mut one.table, &mut one.route);
-            let by_plain = plain::sweep(&form, &mut other.table, &mut other.route);
-            if by_proved != by_plain || one.table != other.table || one.route != other.route {
+            let by_proved = proved(&form, &mut one.table, &mut one.routes);
+            let by_plain = plain::sweep(&form, &mut other.table, &mut other.routes);
+            if by_proved != by_plain || one.table != other.table || one.routes != other.routes {
                 println!("body {made} of {block_count} blocks: {by_proved:?} proved, {by_plain:?} plain, or the memory differs");
                 return ExitCode::FAILURE;
             }

@@ -1,6 +1,6 @@
 //! A plain Rust sweep and a plain Rust full walk of the same method as the proved ones, written for speed and proved by nothing:
 //! the form is read once and the sets of edges are worked out as words. The sweep builds rows from the last block down into
-//! the lent table; the walk calls itself from block to block.
+//! the lent table; the walk calls itself from block to block. Both keep the heaviest and the lightest in the same pass.
 
 const MOST_BLOCKS: usize = 64;
 const MOST_EFFECTS: usize = 256;
@@ -17,7 +17,17 @@ pub struct Swept {
     pub iterations: u64,
     pub weight: u64,
     pub bound: u64,
+    pub least: u64,
+    pub least_total: u64,
     pub kept: u64,
+}
+
+#[derive(Clone, Copy, Debug, Default, PartialEq, Eq)]
+#[repr(C)]
+pub struct Tail {
+    pub weight: u64,
+    pub jumped: u64,
+    pub fallen: u64,
 }
 
 #[derive(Clone, Copy, Debug, Default, PartialEq, Eq)]
@@ -25,9 +35,8 @@ pub struct Swept {
 pub struct Entry {
     pub jumps: u64,
     pub falls: u64,
-    pub weight: u64,
-    pub jumped: u64,
-    pub fallen: u64,
+    pub heaviest: Tail,
+    pub lightest: Tail,
 }
 
 #[derive(Clone, Copy, Default)]
@@ -348,6 +357,19 @@ fn plan_of(body: &Body) -> [Plan; MOST_BLOCKS] {
     plan
 }
 
+impl Tail {
+    /// Does it come before the other, where two part by jump before fall?
+    fn is_before(&self, other: &Tail) -> bool {
+        let differ = self.jumped ^ other.jumped;
+        self.jumped & differ & differ.wrapping_neg() != 0
+    }
+
+    /// With one block more in front.
+    fn with(&self, cost: u64, jumped: u64, fallen: u64) -> Tail {
+        Tail { weight: self.weight + cost, jumped: self.jumped | jumped, fallen: self.fallen | fallen }
+    }
+}
+
 /// The row under construction.
 struct Row {
     entries: [Entry; ROW],
@@ -355,16 +377,19 @@ struct Row {
 }
 
 impl Row {
-    /// Puts an entry in its place, or keeps the better one of its key. False where it would be the 65th.
+    /// Puts an entry in its place, or keeps the better tails of its key. False where it would be the 65th.
     fn insert(&mut self, entry: Entry) -> bool {
         let place = self.entries[..self.held].partition_point(|e| (e.jumps, e.falls) < (entry.jumps, entry.falls));
         if place < self.held {
             let there = &mut self.entries[place];
             if (there.jumps, there.falls) == (entry.jumps, entry.falls) {
-                let differ = there.jumped ^ entry.jumped;
-                let first = entry.jumped & differ & differ.wrapping_neg() != 0;
-                if entry.weight > there.weight || (entry.weight == there.weight && first) {
-                    *there = entry;
+                let (new, held) = (&entry.heaviest, &mut there.heaviest);
+                if new.weight > held.weight || (new.weight == held.weight && new.is_before(held)) {
+                    *held = *new;
+                }
+                let (new, held) = (&entry.lightest, &mut there.lightest);
+                if new.weight < held.weight || (new.weight == held.weight && new.is_before(held)) {
+                    *held = *new;
                 }
                 return true;
             }
@@ -379,15 +404,15 @@ impl Row {
     }
 }
 
-pub fn sweep(form: &[u8], table: &mut [Entry], route: &mut [u8]) -> Result<Swept, Refusal> {
+pub fn sweep(form: &[u8], table: &mut [Entry], routes: &mut [u8]) -> Result<Swept, Refusal> {
     let body = read(form)?;
     let iterations = count(body.initial, body.step, body.relation, body.limit);
     if iterations == 0 {
         return refuse(20, 0);
     }
     let block_count = body.block_count;
-    if route.len() < block_count {
-        return refuse(42, block_count);
+    if routes.len() < 2 * block_count {
+        return refuse(42, 2 * block_count);
     }
     if table.len() < ROW * block_count {
         return refuse(44, ROW * block_count);
@@ -397,8 +422,10 @@ pub fn sweep(form: &[u8], table: &mut [Entry], route: &mut [u8]) -> Result<Swept
     for b in (0..block_count).rev() {
         let (block, plan) = (&body.blocks[b], &plan[b]);
         let mut row = Row { entries: [Entry::default(); ROW], held: 0 };
+        let cost = block.cost as u64;
         if block.ending == 0 {
-            row.insert(Entry { weight: block.cost as u64, ..Entry::default() });
+            let tail = Tail { weight: cost, ..Tail::default() };
+            row.insert(Entry { heaviest: tail, lightest: tail, ..Entry::default() });
         }
         let ways = [(block.ending >= 1, block.jump as usize), (block.ending >= 2, block.fall as usize)];
         for (way, (has, target)) in ways.into_iter().enumerate() {
@@ -421,9 +448,8 @@ pub fn sweep(form: &[u8], table: &mut [Entry], route: &mut [u8]) -> Result<Swept
                 let put = row.insert(Entry {
                     jumps: jumps & live[0],
                     falls: falls & live[1],
-                    weight: entry.weight + block.cost as u64,
-                    jumped: entry.jumped | left_jump,
-                    fallen: entry.fallen | left_fall,
+                    heaviest: entry.heaviest.with(cost, left_jump, left_fall),
+                    lightest: entry.lightest.with(cost, left_jump, left_fall),
                 });
                 if !put {
                     return refuse(40, b);
@@ -436,10 +462,11 @@ pub fn sweep(form: &[u8], table: &mut [Entry], route: &mut [u8]) -> Result<Swept
     if lengths[0] == 0 {
         return refuse(43, 0);
     }
-    let best = table[0];
-    write_route(best.jumped, best.fallen, &mut route[..block_count]);
+    let Entry { heaviest, lightest, .. } = table[0];
+    write_routes(&heaviest, &lightest, &mut routes[..2 * block_count]);
     let kept = lengths.into_iter().max().unwrap_or(0) as u64;
-    Ok(Swept { iterations, weight: best.weight, bound: iterations * best.weight, kept })
+    let (weight, least) = (heaviest.weight, lightest.weight);
+    Ok(Swept { iterations, weight, bound: iterations * weight, least, least_total: iterations * least, kept })
 }
 
 #[derive(Clone, Copy, Debug, PartialEq, Eq)]
@@ -447,6 +474,8 @@ pub struct Walked {
     pub iterations: u64,
     pub weight: u64,
     pub bound: u64,
+    pub least: u64,
+    pub least_total: u64,
     pub walked: u64,
 }
 
@@ -478,9 +507,8 @@ struct Walk<'a> {
     budget: u64,
     walked: u64,
     any: bool,
-    weight: u64,
-    jumped: u64,
-    fallen: u64,
+    heaviest: Tail,
+    lightest: Tail,
 }
 
 impl Walk<'_> {
@@ -490,9 +518,13 @@ impl Walk<'_> {
         let words = &self.words[b];
         let weight = weight + words[12];
         if b + 1 == self.block_count {
-            if !self.any || weight > self.weight {
-                (self.any, self.weight, self.jumped, self.fallen) = (true, weight, jumped, fallen);
+            if !self.any || weight > self.heaviest.weight {
+                self.heaviest = Tail { weight, jumped, fallen };
             }
+            if !self.any || weight < self.lightest.weight {
+                self.lightest = Tail { weight, jumped, fallen };
+            }
+            self.any = true;
             return;
         }
         let jumps = jumps & !words[3] | words[4];
@@ -506,20 +538,20 @@ impl Walk<'_> {
     }
 }
 
-pub fn walk(form: &[u8], budget: u32, route: &mut [u8]) -> Result<Walked, Refusal> {
+pub fn walk(form: &[u8], budget: u32, routes: &mut [u8]) -> Result<Walked, Refusal> {
     let body = read(form)?;
     let iterations = count(body.initial, body.step, body.relation, body.limit);
     if iterations == 0 {
         return refuse(20, 0);
     }
     let block_count = body.block_count;
-    if route.len() < block_count {
-        return refuse(42, block_count);
+    if routes.len() < 2 * block_count {
+        return refuse(42, 2 * block_count);
     }
     let words = words_of(&body);
     let budget = budget as u64;
-    let (walked, any, weight, jumped, fallen) = (0, false, 0, 0, 0);
-    let mut walk = Walk { words: &words, block_count, budget, walked, any, weight, jumped, fallen };
+    let (heaviest, lightest) = (Tail::default(), Tail::default());
+    let mut walk = Walk { words: &words, block_count, budget, walked: 0, any: false, heaviest, lightest };
     walk.from(0, 0, 0, 0, 0, 0);
     if walk.walked > budget {
         return refuse(41, budget as usize);
@@ -527,14 +559,23 @@ pub fn walk(form: &[u8], budget: u32, route: &mut [u8]) -> Result<Walked, Refusa
     if !walk.any {
         return refuse(43, 0);
     }
-    write_route(walk.jumped, walk.fallen, &mut route[..block_count]);
-    Ok(Walked { iterations, weight: walk.weight, bound: iterations * walk.weight, walked: walk.walked })
+    let Walk { heaviest, lightest, walked, .. } = walk;
+    write_routes(&heaviest, &lightest, &mut routes[..2 * block_count]);
+    let (weight, least) = (heaviest.weight, lightest.weight);
+    Ok(Walked { iterations, weight, bound: iterations * weight, least, least_total: iterations * least, walked })
+}
+
+/// The heaviest's bytes, then the lightest's.
+fn write_routes(heaviest: &Tail, lightest: &Tail, routes: &mut [u8]) {
+    let (first, second) = routes.split_at_mut(routes.len() / 2);
+    write_route(heaviest, first);
+    write_route(lightest, second);
 }
 
 /// 1 where the block is left by jump or go, 2 by fall, 3 the last block.
-fn write_route(jumped: u64, fallen: u64, route: &mut [u8]) {
+fn write_route(tail: &Tail, route: &mut [u8]) {
     for (b, byte) in route.iter_mut().enumerate() {
-        *byte = (jumped >> b & 1) as u8 + 2 * (fallen >> b & 1) as u8;
+        *byte = (tail.jumped >> b & 1) as u8 + 2 * (tail.fallen >> b & 1) as u8;
     }
     route[route.len() - 1] = 3;
 }

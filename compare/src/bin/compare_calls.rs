@@ -6,7 +6,8 @@
 //! Of every input the verdict, the form written back, the conflict list, the full walk and both sweeps are asked, each with
 //! lent memory that is not there, too short, exact or longer, by chance, and with a pattern in it. Answers, routes, lists,
 //! rows and untouched bytes are held to the second program's. Then the two ways are held to each other: wherever both answer,
-//! iterations, weight, bound and route are the same (`compare_ways` does it where there are too many ways to list).
+//! iterations, weight, bound, least, least total and both routes are the same (`compare_ways` does it where there are too many
+//! ways to list).
 
 use std::process::ExitCode;
 
@@ -77,17 +78,19 @@ fn compare(comparison: &mut Comparison, form: Form) {
         Question::on(Call::Verdict, &form),
         Question::on(Call::Rewrite, &form).out(lent(random, form.len())),
         Question::on(Call::Conflicts, &form).out(lent(random, listed)),
-        Question::on(Call::Walk, &form).budget(budget).out(lent(random, blocks)),
-        Question::on(Call::Sweep, &form).out(lent(random, blocks)),
-        Question::on(Call::SweepTable, &form).table(lent(random, ROW_ENTRIES * blocks)).out(lent(random, blocks)),
+        Question::on(Call::Walk, &form).budget(budget).out(lent(random, 2 * blocks)),
+        Question::on(Call::Sweep, &form).out(lent(random, 2 * blocks)),
+        Question::on(Call::SweepTable, &form)
+            .table(lent(random, ROW_ENTRIES * blocks))
+            .out(lent(random, 2 * blocks)),
     ];
     comparison.compare(what.clone(), &listing, questions);
 
-    let walk = Question::on(Call::Walk, &form).budget(BUDGET).out(Some(MOST_BLOCKS));
-    let sweep = Question::on(Call::Sweep, &form).out(Some(MOST_BLOCKS));
+    let walk = Question::on(Call::Walk, &form).budget(BUDGET).out(Some(2 * MOST_BLOCKS));
+    let sweep = Question::on(Call::Sweep, &form).out(Some(2 * MOST_BLOCKS));
     comparison.ask(what, vec![walk, sweep], move |_, answers, met| {
         let [walk, sweep] = answers else { panic!("two were asked") };
         met.note("an answer both ways", walk.numbers[0] == 0 && sweep.numbers[0] == 0);
-        agree("walk and sweep", [walk, sweep], blocks, 5, &[40, 41, 44])
+        agree("walk and sweep", [walk, sweep], blocks, 7, &[40, 41, 44])
     });
 }

@@ -18,7 +18,7 @@ use by_listing::random::Random;
 use by_listing::served::{Call, Question};
 use by_listing::tally::Met;
 
-const INPUTS: u64 = 26_000;
+const INPUTS: u64 = 28_000;
 
 fn main() -> ExitCode {
     let mut comparison = Comparison::start("compare_conflicts", INPUTS, &[Call::Conflicts, Call::Pair]);

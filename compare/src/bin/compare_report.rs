@@ -12,13 +12,17 @@ use std::process::{Command, ExitCode, Stdio};
 use std::thread::sleep;
 use std::time::Duration;
 
-use by_listing::conflict::AT_LEAST;
+use by_listing::conflict::EQUAL;
 use by_listing::driver::Arguments;
 use by_listing::example::{trainer_counter, trainer_form, trainer_parts};
-use by_listing::form::{block_bytes, counter_bytes, effect_bytes, parts_bytes, Block, Counter, Effect, Parts};
+use by_listing::form::{
+    block_bytes, counter_bytes, effect_bytes, parts_bytes, read, Block, Counter, Effect, Parts,
+};
 use by_listing::generate::{generate, mixed, mixed_accepted};
+use by_listing::made::{chain, open_tests, open_tests_and_a_way_round, with_beginnings};
 use by_listing::random::Random;
-use by_listing::report::report;
+use by_listing::report::{report, OWN_TABLE_BLOCKS};
+use by_listing::shapes::note_routes;
 use by_listing::tally::{Met, Tally};
 
 const INPUTS: u64 = 300;
@@ -29,8 +33,18 @@ const LONG: usize = 100_000;
 /// Between two pieces of an input that comes in pieces.
 const PAUSE: Duration = Duration::from_millis(40);
 
-const TRAINERS: &str =
-    "blocks 8\niterations 10\nconflicts 3\nweight 43\nbound 430\nroute 0J 2J 3F 5F 6J 7E\nkept 4\nwalked 13\n";
+const TRAINERS: &str = "\
+blocks 8
+iterations 10
+conflicts 3
+weight 43
+bound 430
+route 0J 2J 3F 5F 6J 7E
+least 17
+least route 0F 1J 3F 5J 7E
+kept 4
+walked 13
+";
 
 struct Comparison {
     program: Vec<String>,
@@ -43,7 +57,8 @@ fn main() -> ExitCode {
     let mut comparison = Comparison { program, tally: Tally::default(), met: Met::default() };
     comparison.trainers_cases();
     comparison.refusals();
-    comparison.budgets();
+    comparison.routes();
+    comparison.beginnings();
     comparison.lengths(seed);
     comparison.pieces();
     comparison.generated(seed, inputs);
@@ -88,7 +103,7 @@ impl Comparison {
             self.met.note("too many ways to list", true);
             return;
         };
-        self.note(&second);
+        self.note(&second, &pieces.concat());
         if let Some(wanted) = wanted {
             self.tally.equal(&format!("{what}, by the second program"), second.as_str(), wanted);
         }
@@ -96,11 +111,13 @@ impl Comparison {
         self.tally.equal(what, printed, Ok(second));
     }
 
-    fn note(&mut self, text: &str) {
+    fn note(&mut self, text: &str, form: &[u8]) {
         self.met.note("a report", text.starts_with("blocks"));
-        self.met.note("walked over", text.ends_with("walked over\n"));
         for refusal in REFUSALS {
             self.met.note(refusal, text.starts_with(refusal));
+        }
+        if text.starts_with("blocks") {
+            note_routes(&mut self.met, &read(form).expect("a form with a report is accepted"));
         }
     }
 
@@ -114,13 +131,14 @@ impl Comparison {
         let mut parts = trainer_parts();
         parts[1].0 = Block::go(3, 1);
         self.form("block 1's target made 1", &parts_bytes(&trainer_counter(), &parts), "refused 16 at 34\n");
-        self.form("25 blocks", &parts_bytes(&trainer_counter(), &chain(25)), "refused 44 at 1600\n");
-        let names: Vec<String> = (0..23).map(|block| format!("{block}J")).collect();
+        self.form("17 blocks", &parts_bytes(&trainer_counter(), &chain(17)), "refused 44 at 1088\n");
+        let names: Vec<String> = (0..15).map(|block| format!("{block}J")).collect();
+        let route = format!("{} 15E", names.join(" "));
         let swept = format!(
-            "blocks 24\niterations 10\nconflicts 0\nweight 24\nbound 240\nroute {} 23E\nkept 1\nwalked 24\n",
-            names.join(" ")
+            "blocks 16\niterations 10\nconflicts 0\nweight 16\nbound 160\nroute {route}\nleast 16\nleast route {route}\n\
+             kept 1\nwalked 16\n"
         );
-        self.form("24 blocks", &parts_bytes(&trainer_counter(), &chain(24)), &swept);
+        self.form("16 blocks", &parts_bytes(&trainer_counter(), &chain(16)), &swept);
         self.form("no input", &[], "refused 17 at 0\n");
     }
 
@@ -128,7 +146,7 @@ impl Comparison {
     fn refusals(&mut self) {
         let none = Counter { initial: 5, step: 0, relation: 0, limit: 5 };
         self.form("no loop count", &parts_bytes(&none, &trainer_parts()), "refused 20 at 0\n");
-        self.form("25 blocks and no loop count", &parts_bytes(&none, &chain(25)), "refused 20 at 0\n");
+        self.form("17 blocks and no loop count", &parts_bytes(&none, &chain(17)), "refused 20 at 0\n");
         self.form("64 blocks", &parts_bytes(&trainer_counter(), &chain(64)), "refused 44 at 4096\n");
         self.form(
             "seven tests open at once",
@@ -136,8 +154,10 @@ impl Comparison {
             "refused 40 at 1\n",
         );
         self.compare("six tests open at once", &[&parts_bytes(&trainer_counter(), &open_tests(6))], None);
-        let both = parts_bytes(&trainer_counter(), &crowded_and_over());
-        self.form("crowded, and the walk over its budget", &both, "refused 40 at 11\n");
+        let crowded = parts_bytes(&trainer_counter(), &open_tests_and_a_way_round(13));
+        self.form("16 blocks, 13 tests open at once", &crowded, "refused 40 at 8\n");
+        let larger = parts_bytes(&trainer_counter(), &open_tests_and_a_way_round(14));
+        self.form("17 blocks, 14 tests open at once", &larger, "refused 44 at 1088\n");
         self.form("a counter alone", &counter_bytes(&trainer_counter()), "refused 17 at 17\n");
         let form = trainer_form();
         for cut in [1, 2, 3, 16, 18, 20, 172] {
@@ -145,16 +165,57 @@ impl Comparison {
         }
     }
 
-    /// The walk's budget, exactly met and passed by one.
-    fn budgets(&mut self) {
-        for (walked, line) in
-            [(99_999, "walked 99999\n"), (100_000, "walked 100000\n"), (100_001, "walked over\n")]
-        {
-            let form = parts_bytes(&trainer_counter(), &with_beginnings(walked));
+    /// The first of routes that weigh the same, and ways that a conflict strikes out; worked out by hand.
+    fn routes(&mut self) {
+        let form = |parts: &Parts| parts_bytes(&trainer_counter(), parts);
+        let free = vec![
+            (Block::open(0, 1, 2), vec![]),
+            (Block::go(0, 3), vec![]),
+            (Block::go(0, 3), vec![]),
+            (Block::end(0), vec![]),
+        ];
+        let text = "blocks 4\niterations 10\nconflicts 0\nweight 0\nbound 0\nroute 0J 1J 3E\nleast 0\n\
+                    least route 0J 1J 3E\nkept 1\nwalked 5\n";
+        self.form("nothing costs anything", &form(&free), text);
+        let tied = vec![
+            (Block::open(1, 1, 2), vec![]),
+            (Block::go(9, 5), vec![]),
+            (Block::open(1, 3, 4), vec![]),
+            (Block::go(2, 5), vec![]),
+            (Block::go(2, 5), vec![]),
+            (Block::end(1), vec![]),
+        ];
+        let text = "blocks 6\niterations 10\nconflicts 0\nweight 11\nbound 110\nroute 0J 1J 5E\nleast 5\n\
+                    least route 0F 2J 3J 5E\nkept 1\nwalked 8\n";
+        self.form("two lightest routes, neither of them first", &form(&tied), text);
+        let struck_out = vec![
+            (Block::go(1, 1), vec![Effect::constant(0, 1)]),
+            (Block::test(1, 0, EQUAL, 0, 4, 2), vec![]),
+            (Block::open(10, 3, 4), vec![]),
+            (Block::go(100, 4), vec![]),
+            (Block::end(1), vec![]),
+        ];
+        let text =
+            "blocks 5\niterations 10\nconflicts 1\nweight 113\nbound 1130\nroute 0J 1F 2J 3J 4E\nleast 13\n\
+                    least route 0J 1F 2F 4E\nkept 2\nwalked 6\n";
+        self.form("the lightest way has a conflict", &form(&struck_out), text);
+    }
+
+    /// The most that can be walked in as many blocks as are swept. It is below the budget, so that no form has a report
+    /// that ends in `walked over`.
+    fn beginnings(&mut self) {
+        for walked in [32_768, 49_151, 65_535] {
+            let parts = with_beginnings(walked);
+            self.tally.equal(&format!("the blocks of {walked} beginnings"), parts.len(), OWN_TABLE_BLOCKS);
+            let form = parts_bytes(&trainer_counter(), &parts);
             self.compare(&format!("a body of {walked} beginnings"), &[&form], None);
-            let ends = report(&form).is_ok_and(|text| text.ends_with(line) && text.lines().count() == 8);
-            self.tally.check(ends, || format!("a body of {walked} beginnings does not end in {line}"));
+            let last_line = format!("walked {walked}");
+            let ends = report(&form)
+                .is_ok_and(|text| text.lines().count() == 10 && text.lines().last() == Some(&last_line));
+            self.tally.check(ends, || format!("a body of {walked} beginnings does not end in {last_line}"));
         }
+        let one_more = parts_bytes(&trainer_counter(), &with_beginnings(65_536));
+        self.form("a body of 65,536 beginnings", &one_more, "refused 44 at 1088\n");
     }
 
     /// Longer than any form, and at the lengths where the program's room ends.
@@ -223,46 +284,3 @@ const REFUSALS: [&str; 13] = [
     "refused 40 at",
     "refused 44 at",
 ];
-
-/// Blocks of cost 1, each of which goes to the next.
-fn chain(blocks: u8) -> Parts {
-    let mut parts: Parts = (1..blocks).map(|next| (Block::go(1, next), vec![])).collect();
-    parts.push((Block::end(1), vec![]));
-    parts
-}
-
-/// Block 0 sets as many variables as there are tests; then a test of each. Every set of their edges is open in block 1:
-/// jump edges conflict with block 0, fall edges do not.
-fn open_tests(tests: u8) -> Parts {
-    let mut parts: Parts =
-        vec![(Block::go(1, 1), (0..tests).map(|variable| Effect::constant(variable, 0)).collect())];
-    parts.extend((0..tests).map(|test| (Block::test(1, test, AT_LEAST, 1, test + 2, test + 2), vec![])));
-    parts.push((Block::end(1), vec![]));
-    parts
-}
-
-/// The same with 16 tests and a way round the block that sets the variables, on which all their edges can be taken: more
-/// beginnings than the budget.
-fn crowded_and_over() -> Parts {
-    let effects = (0..16).map(|variable| Effect::constant(variable, 0)).collect();
-    let mut parts: Parts = vec![(Block::open(1, 1, 2), vec![]), (Block::go(1, 2), effects)];
-    parts.extend((0..16).map(|test| (Block::test(1, test, AT_LEAST, 1, test + 3, test + 3), vec![])));
-    parts.push((Block::end(1), vec![]));
-    parts
-}
-
-/// A body with exactly so many beginnings: one more than those of the next block, or than twice those.
-fn with_beginnings(many: u64) -> Parts {
-    let mut steps = Vec::new();
-    let mut left = many;
-    while left > 1 {
-        steps.push(left % 2 == 1);
-        left = if left % 2 == 1 { left / 2 } else { left - 1 };
-    }
-    let blocks = steps.into_iter().zip(1..);
-    let mut parts: Parts = blocks
-        .map(|(twice, next)| (if twice { Block::open(1, next, next) } else { Block::go(1, next) }, vec![]))
-        .collect();
-    parts.push((Block::end(1), vec![]));
-    parts
-}

@@ -1,10 +1,11 @@
-//! Compares the proved sweep with the second program's: every row, iterations, weight, bound, kept, route, refusals.
+//! Compares the proved sweep with the second program's: both extremes of every row, iterations, weight, bound, least, least
+//! total, kept, both routes, refusals.
 //!
 //!     compare_sweep [SEED [INPUTS]] -- PROGRAM WORD..
 //!
 //! Every body is swept over a lent table that is exact and one that is longer, both with a pattern in them beforehand, and
-//! over the library's own; and over tables that are not there or too small, by one entry or more, with a route that is not
-//! there, too short, exact and longer.
+//! over the library's own; and over tables that are not there or too small, by one entry or more, with bytes for the routes
+//! that are not there, too few, enough for one route alone, exact and more.
 
 use std::collections::BTreeMap;
 use std::process::ExitCode;
@@ -16,8 +17,9 @@ use by_listing::generate::mostly_small;
 use by_listing::random::Random;
 use by_listing::rows::ROW_ENTRIES;
 use by_listing::served::{Call, Question};
+use by_listing::shapes::{note_routes, note_rows};
 
-const INPUTS: u64 = 26_000;
+const INPUTS: u64 = 28_000;
 
 /// What the sweeps of bodies of 10 to 24 blocks were answered with.
 #[derive(Default)]
@@ -47,37 +49,45 @@ fn compare(comparison: &mut Comparison, larger: &mut Larger, form: Form) {
     let mut random = Random::new(seed);
     let listing = Listing::of(&form);
     let blocks = listing.body().map_or(0, |body| body.block_count);
-    let entries = ROW_ENTRIES * blocks;
-    let shorter = random.below(blocks.max(1));
-    let longer = blocks + 1 + random.below(MOST_BLOCKS);
+    let (entries, bytes) = (ROW_ENTRIES * blocks, 2 * blocks);
+    let fewer_bytes = if random.percent(50) { blocks } else { random.below(bytes.max(1)) };
+    let more_bytes = bytes + 1 + random.below(2 * MOST_BLOCKS);
     let less = random.below(entries.max(1));
     let more = entries + 1 + random.below(2 * ROW_ENTRIES);
 
-    let lent = |table, route| Question::on(Call::SweepTable, &form).table(table).out(route);
-    let own = |route| Question::on(Call::Sweep, &form).out(route);
+    let lent = |table, routes| Question::on(Call::SweepTable, &form).table(table).out(routes);
+    let own = |routes| Question::on(Call::Sweep, &form).out(routes);
     let mut questions = vec![
-        lent(Some(entries), Some(longer)),
-        lent(Some(more), Some(blocks)),
-        own(Some(random.pick(&[blocks, longer]))),
+        lent(Some(entries), Some(more_bytes)),
+        lent(Some(more), Some(bytes)),
+        own(Some(random.pick(&[bytes, more_bytes]))),
     ];
-    questions.push(match random.below(8) {
-        0 => lent(entries.checked_sub(1), Some(blocks)),
-        1 => lent(Some(less), Some(longer)),
-        2 => lent(None, Some(blocks)),
+    let refused = random.below(8);
+    questions.push(match refused {
+        0 => lent(entries.checked_sub(1), Some(bytes)),
+        1 => lent(Some(less), Some(more_bytes)),
+        2 => lent(None, Some(bytes)),
         3 => lent(None, None),
-        4 => lent(Some(entries), blocks.checked_sub(1)),
-        5 => lent(Some(less), Some(shorter)),
-        6 => own(Some(shorter)),
+        4 => lent(Some(entries), bytes.checked_sub(1)),
+        5 => lent(Some(less), Some(fewer_bytes)),
+        6 => own(Some(fewer_bytes)),
         _ => own(None),
     });
     let answers = comparison.compare(what, &listing, questions);
 
     comparison.met.note("1 to 9 blocks", (1..10).contains(&blocks));
     comparison.met.note("10 to 24 blocks", (10..=24).contains(&blocks));
-    comparison.met.note("24 blocks", blocks == 24);
-    comparison.met.note("25 blocks", blocks == 25);
-    comparison.met.note("26 to 64 blocks", blocks > 25);
-    comparison.met.note("44 at 1600", answers.iter().any(|numbers| numbers[..2] == [44, 1_600]));
+    comparison.met.note("25 to 64 blocks", blocks > 24);
+    comparison.met.note("16 blocks", blocks == 16);
+    comparison.met.note("17 blocks", blocks == 17);
+    comparison.met.note("44 at 1088", answers.iter().any(|numbers| numbers[..2] == [44, 1_088]));
+    let bytes_of_one = matches!(refused, 5 | 6) && fewer_bytes == blocks;
+    let is_42 = answers.last().is_some_and(|numbers| numbers[..2] == [42, bytes as u64]);
+    comparison.met.note("42 where one route's bytes are lent", bytes_of_one && is_42);
+    if let (Ok(body), Ok(list)) = (listing.body(), listing.list()) {
+        note_routes(&mut comparison.met, body);
+        note_rows(&mut comparison.met, body, list);
+    }
     if let (10..=24, Some([number, place, .., kept])) = (blocks, answers.first()) {
         match number {
             0 => *larger.kept.entry(*kept).or_default() += 1,

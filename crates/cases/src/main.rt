@@ -1,6 +1,6 @@
 // The trainer's cases of document 01 that are not marked, and 'Where trainees go wrong', a case each in which the wrong
-// answer would be printed otherwise. A line for each answer, with all its numbers; last the writer's refusals, one by
-// one and in their order. The marked cases are proved (crate marked).
+// answer would be printed otherwise; likewise the cheapest iteration of request A1. A line for each answer, with all
+// its numbers; last the writer's refusals, one by one and in their order. The marked cases are proved (crate marked).
 mod bodies;
 mod show;
 
@@ -67,7 +67,7 @@ fn counts() {
     );
 }
 
-// ---- the table of 1,536 entries
+// ---- the table of 1,024 entries
 
 // Blocks of cost 1, each of which goes to the next.
 fn chain(blocks: u8) -> Body {
@@ -82,8 +82,8 @@ fn chain(blocks: u8) -> Body {
 }
 
 fn tables() {
-    show::body(b"25 blocks\n", chain(25));
-    show::body(b"24 blocks\n", chain(24));
+    show::body(b"17 blocks\n", chain(17));
+    show::body(b"16 blocks\n", chain(16));
 }
 
 // ---- a conflict-free route need not be runnable
@@ -221,6 +221,69 @@ fn tails() {
     );
 }
 
+// ---- the cheapest iteration
+
+// Of three routes the first is the heaviest, and the other two are the lightest.
+fn two_lightest() -> Body {
+    let b0 = bodies::open(ten(), 1, 0, 1, 2);
+    let b1 = bodies::go(b0, 9, 0, 5);
+    let b2 = bodies::open(b1, 1, 0, 3, 4);
+    let b3 = bodies::go(b2, 2, 0, 5);
+    let b4 = bodies::go(b3, 2, 0, 5);
+    bodies::end(b4, 1)
+}
+
+// Both tails of block 2 weigh the same, and less than the way by block 5; the fall has no open edge, the jump has one,
+// and comes first.
+fn lightest_tie() -> Body {
+    let b0 = bodies::open(ten(), 1, 0, 2, 1);
+    let b1 = bodies::go(b0, 3, 1, 2);
+    let e1 = bodies::set(b1, 0, 0);
+    let b2 = bodies::test(e1, 1, 0, 0, EQUAL, 1, 3, 4);
+    let b3 = bodies::go(b2, 5, 0, 6);
+    let b4 = bodies::open(b3, 5, 0, 6, 5);
+    let b5 = bodies::go(b4, 7, 0, 6);
+    bodies::end(b5, 1)
+}
+
+// The lightest way, by block 1's jump, conflicts with block 0.
+fn lightest_struck_out() -> Body {
+    let b0 = bodies::go(ten(), 1, 1, 1);
+    let e0 = bodies::set(b0, 0, 1);
+    let b1 = bodies::test(e0, 1, 0, 0, EQUAL, 0, 4, 2);
+    let b2 = bodies::open(b1, 10, 0, 3, 4);
+    let b3 = bodies::go(b2, 100, 0, 4);
+    bodies::end(b3, 1)
+}
+
+// Every route costs nothing.
+fn costless() -> Body {
+    let b0 = bodies::open(ten(), 0, 0, 1, 2);
+    let b1 = bodies::go(b0, 0, 0, 3);
+    let b2 = bodies::go(b1, 0, 0, 3);
+    bodies::end(b2, 0)
+}
+
+fn cheapest() {
+    show::body(
+        b"two lightest routes, neither of them the first route\n",
+        two_lightest(),
+    );
+    show::body(
+        b"a lightest tail with no open edge, and one as light that comes first\n",
+        lightest_tie(),
+    );
+    show::body(
+        b"the lightest way has a conflict: struck out\n",
+        lightest_struck_out(),
+    );
+    show::body(b"nothing costs anything\n", costless());
+    show::short(
+        b"the trainer's body, 15 bytes lent for two routes of 8\n",
+        trainers(ten()),
+    );
+}
+
 // ---- letting the counter wrap
 
 fn wraps() {
@@ -341,6 +404,7 @@ fn main() {
     forgotten_effects();
     reals();
     tails();
+    cheapest();
     wraps();
     refused_counts();
     refused_fields();

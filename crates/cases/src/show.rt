@@ -49,18 +49,26 @@ fn entries(bytes: &[u8]) {
     say(b"\n");
 }
 
-// The bytes of a route up to its last block.
-fn route(bytes: [u8; 64]) {
-    say(b", route");
-    let mut i = 0;
-    while i < 64 {
+// The bytes of a route from a place on, up to its last block; the place behind it.
+fn route(bytes: [u8; 128], from: usize) -> usize {
+    let mut i = from;
+    while i < 128 {
+        let way = bytes[i];
         say(b" ");
-        byte(bytes[i]);
-        if bytes[i] == 3 {
+        byte(way);
+        i += 1;
+        if way == 3 {
             break;
         }
-        i += 1;
     }
+    i
+}
+
+fn routes(bytes: [u8; 128]) {
+    say(b", routes");
+    let second = route(bytes, 0);
+    say(b" and");
+    route(bytes, second);
     say(b"\n");
 }
 
@@ -93,47 +101,61 @@ pub(crate) fn list(form: &[u8]) {
     }
 }
 
-fn numbers(iterations: u64, weight: u64, bound: u64) {
+fn numbers(iterations: u64, weight: u64, bound: u64, least: u64, least_total: u64) {
     value(b" iterations ", iterations);
     value(b", weight ", weight);
     value(b", bound ", bound);
+    value(b", least ", least);
+    value(b", least total ", least_total);
 }
 
-pub(crate) fn sweep(form: &[u8]) {
+fn swept(answer: SweepAnswer, bytes: [u8; 128]) {
     say(b"  sweep:");
-    let mut bytes = [0u8; 64];
-    match sweep::sweep_own(form, &mut bytes) {
+    match answer {
         SweepAnswer::Routed {
             iterations,
             weight,
             bound,
+            least,
+            least_total,
             kept,
         } => {
-            numbers(iterations, weight, bound);
+            numbers(iterations, weight, bound, least, least_total);
             value(b", kept ", kept);
-            route(bytes);
+            routes(bytes);
         }
         SweepAnswer::Refused { number, place } => refusal(number, place),
     }
 }
 
-pub(crate) fn walk(form: &[u8], budget: u32) {
+fn walked(answer: WalkAnswer, budget: u32, bytes: [u8; 128]) {
     value(b"  walk, budget ", budget as u64);
     say(b":");
-    let mut bytes = [0u8; 64];
-    match walk::walk(form, budget, &mut bytes) {
+    match answer {
         WalkAnswer::Walked {
             iterations,
             weight,
             bound,
+            least,
+            least_total,
             walked,
         } => {
-            numbers(iterations, weight, bound);
+            numbers(iterations, weight, bound, least, least_total);
             value(b", walked ", walked);
-            route(bytes);
+            routes(bytes);
         }
         WalkAnswer::Refused { number, place } => refusal(number, place),
     }
+}
+
+pub(crate) fn sweep(form: &[u8]) {
+    let mut bytes = [0u8; 128];
+    swept(sweep::sweep_own(form, &mut bytes), bytes);
+}
+
+pub(crate) fn walk(form: &[u8], budget: u32) {
+    let mut bytes = [0u8; 128];
+    walked(walk::walk(form, budget, &mut bytes), budget, bytes);
 }
 
 // The body's form, laid out in the lent bytes; how many bytes it has, or none where the writer refuses.
@@ -188,4 +210,22 @@ pub(crate) fn body(name: &[u8], body: form::Body) {
     list(&out[..n]);
     sweep(&out[..n]);
     walk(&out[..n], 100000);
+}
+
+// A case of both ways, lent 15 bytes for the routes.
+pub(crate) fn short(name: &[u8], body: form::Body) {
+    say(name);
+    let mut out = [0u8; 3665];
+    let n = form(body, &mut out);
+    let mut swept_bytes = [0u8; 128];
+    swept(
+        sweep::sweep_own(&out[..n], &mut swept_bytes[..15]),
+        swept_bytes,
+    );
+    let mut walked_bytes = [0u8; 128];
+    walked(
+        walk::walk(&out[..n], 13, &mut walked_bytes[..15]),
+        13,
+        walked_bytes,
+    );
 }

@@ -12,7 +12,7 @@ use Rattle.form.specs.Conflict.{conflictBytes}
 use Rattle.laws.specs.Terms.{digit}
 use Rattle.pair.specs.Pair.{conflicting}
 use Rattle.listing.specs.Answer as Conflict
-use Rattle.theory.specs.Route.{dearest}
+use Rattle.theory.specs.Route.{sideOf}
 use Rattle.plan.specs.Accepted as Routes
 use Rattle.walk.specs.Answer as Walk
 use Rattle.entries.specs.declared.Entry.{Entry}
@@ -62,7 +62,7 @@ pub one-walk :
     → Walk.WalkOwed form budget route (walkValues b, held′) → (a ≡ b) × (held ≡ held′)
 one-walk form budget route held held′ a b o p =
     let e =
-    Routes.owed-once form (Walk.refused route) (Walk.walkOutcome (bodyOf form) (dearest (bodyOf form)) budget route)
+    Routes.owed-once form (Walk.refused route) (Walk.walkOutcome (bodyOf form) (sideOf (bodyOf form)) budget route)
     (walkValues a, held) (walkValues b, held′) o p in (
       (λ i.
           record {
@@ -71,6 +71,8 @@ one-walk form budget route held held′ a b o p =
             iterations = e i .0 .iterations;
             weight = e i .0 .weight;
             bound = e i .0 .bound;
+            least = e i .0 .least;
+            «least_total» = e i .0 .leastTotal;
             walked = e i .0 .keptOrWalked;
           }),
       (λ i. e i .1),
@@ -83,7 +85,7 @@ pub one-sweep-table :
 one-sweep-table form route held held′ table rows rows′ a b o p =
     let e =
     Routes.owed-once form (Sweep.refused route table)
-    (Sweep.sweepOutcome (bodyOf form) (dearest (bodyOf form)) route table) (sweptOutcome a held rows)
+    (Sweep.sweepOutcome (bodyOf form) (sideOf (bodyOf form)) route table) (sweptOutcome a held rows)
     (sweptOutcome b held′ rows′) o p in (
       (λ i.
           record {
@@ -92,6 +94,8 @@ one-sweep-table form route held held′ table rows rows′ a b o p =
             iterations = e i .values .iterations;
             weight = e i .values .weight;
             bound = e i .values .bound;
+            least = e i .values .least;
+            «least_total» = e i .values .leastTotal;
             kept = e i .values .keptOrWalked;
           }),
       ((λ i. e i .route), (λ i. e i .table)),

@@ -72,7 +72,7 @@ pub extern "C" fn somniaret_conflicts(bytes: &[u8], out: &mut [u8]) -> ListNumbe
     numbers::of_listed(listing::conflicts(bytes, out))
 }
 
-// The full walk of a form with a budget: its numbers, and the route's bytes in the lent ones; or a refusal, which
+// The full walk of a form with a budget: its numbers, and both routes' bytes in the lent ones; or a refusal, which
 // changes none.
 #[no_mangle]
 pub extern "C" fn somniaret_walk(bytes: &[u8], budget: u32, route: &mut [u8]) -> WalkNumbers
@@ -81,7 +81,7 @@ pub extern "C" fn somniaret_walk(bytes: &[u8], budget: u32, route: &mut [u8]) ->
     numbers::of_walk(walk::walk(bytes, budget, route))
 }
 
-// The sweep of a form over a lent table of entries: its numbers, the rows in the table, and the route's bytes in the
+// The sweep of a form over a lent table of entries: its numbers, the rows in the table, and both routes' bytes in the
 // lent ones.
 #[no_mangle]
 pub extern "C" fn somniaret_sweep_table(
@@ -96,7 +96,7 @@ pub extern "C" fn somniaret_sweep_table(
     numbers::of_sweep(answer)
 }
 
-// The same over a table of its own, as large as the report program's: 1,536 entries.
+// The same over a table of its own, as large as the report program's: 1,024 entries.
 #[no_mangle]
 pub extern "C" fn somniaret_sweep(bytes: &[u8], route: &mut [u8]) -> SweepNumbers
     ensures { λ r. ⌜ OwnSweepOwed (now (bytes .entry)) (now (route .entry)) r (now (route .exit)) ⌝ }

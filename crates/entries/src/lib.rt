@@ -1,15 +1,14 @@
 // Entries in a row's words, in the order of their keys: one read and put by its place, and one put in where its key
 // belongs. Only `entry_at` and `put_entry` know how an entry lies in the words.
 ghost use mathlib.Core.Path.{_≡_};
-ghost use mathlib.Core.Bool.{cond, _&&_};
-ghost use Prim.Native.Nat.{suc, _*_, _≤_};
+ghost use mathlib.Core.Bool.{_&&_};
+ghost use Prim.Native.Nat.{suc, _+_, _*_, _≤_};
 ghost use lib.Dec.{eqb, ltb};
 ghost use lib.ListN.{length};
-ghost use Rattle.laws.specs.Terms.{next, heavier};
+ghost use Rattle.laws.specs.Terms.{preferred};
 ghost use Rattle.theory.specs.Row.{keyBefore};
-ghost use Rattle.theory.specs.Ties.{earlier};
-ghost use Rattle.entries.specs.Entries.{entryAt, entriesFrom, betterOf, inserted, entryPut, Place, Moved, Squeezed, Grown};
-ghost use Rattle.entries.specs.Structs.{tupleOf, structAt};
+ghost use Rattle.entries.specs.Entries.{wayAt, wayPut, entryAt, entriesFrom, betterOf, keepBest, inserted, entryPut, entryKept, Place, Moved, Squeezed, Grown};
+ghost use Rattle.entries.specs.Structs.{wordsIn, tupleOf, structAt};
 
 // A way to the end of a body as words: its weight, the blocks left by jump or go, the blocks left by fall.
 #[repr(C)]
@@ -19,43 +18,64 @@ pub struct Way {
     pub fallen: u64,
 }
 
-// Of tails with one pair of sets of open edges, the jump set and the fall set, the first of the heaviest.
+// For one pair of sets of open edges, the jump set and the fall set: of the tails with just these the first of the
+// heaviest, and the first of the lightest.
 #[repr(C)]
 pub struct Entry {
     pub jumps: u64,
     pub falls: u64,
-    pub way: Way,
+    pub heaviest: Way,
+    pub lightest: Way,
+}
+
+// The way in the three words from a place on.
+fn way_at(row: &[u64], at: usize) -> Way
+    requires { ⌜ at + 3 ≤ length (now row) ⌝ }
+    ensures { λ r. ⌜ wordsIn r ≡ wayAt (now (row .entry)) at ⌝ }
+{
+    Way {
+        weight: row[at],
+        jumped: row[at + 1],
+        fallen: row[at + 2],
+    }
+}
+
+// A way into the three words from a place on, which is returned.
+fn put_way(row: &mut [u64], at: usize, way: Way) -> usize
+    requires { ⌜ at + 3 ≤ length (now row) ⌝ }
+    ensures { λ r. ⌜ now (row .exit) ≡ wayPut (now (row .entry)) at (wordsIn way) ⌝ }
+{
+    row[at] = way.weight;
+    row[at + 1] = way.jumped;
+    row[at + 2] = way.fallen;
+    at
 }
 
 // Entry p of a row's words.
 pub fn entry_at(row: &[u64], p: usize) -> Entry
-    requires { ⌜ 5 * suc p ≤ length (now row) ⌝ }
+    requires { ⌜ 8 * suc p ≤ length (now row) ⌝ }
     ensures { λ r. ⌜ r ≡ structAt (now (row .entry)) p ⌝ }
 {
-    let at = 5 * p;
-    let way = Way {
-        weight: row[at + 2],
-        jumped: row[at + 3],
-        fallen: row[at + 4],
-    };
+    let at = 8 * p;
+    let heaviest = way_at(row, at + 2);
+    let lightest = way_at(row, at + 5);
     Entry {
         jumps: row[at],
         falls: row[at + 1],
-        way,
+        heaviest,
+        lightest,
     }
 }
 
 // An entry into a row's words, as its entry p, which is returned.
 pub fn put_entry(row: &mut [u64], p: usize, e: Entry) -> usize
-    requires { ⌜ 5 * suc p ≤ length (now row) ⌝ }
+    requires { ⌜ 8 * suc p ≤ length (now row) ⌝ }
     ensures { λ r. ⌜ now (row .exit) ≡ entryPut (now (row .entry)) p (tupleOf e) ⌝ }
 {
-    let way = e.way;
-    row[5 * p] = e.jumps;
-    row[5 * p + 1] = e.falls;
-    row[5 * p + 2] = way.weight;
-    row[5 * p + 3] = way.jumped;
-    row[5 * p + 4] = way.fallen;
+    row[8 * p] = e.jumps;
+    row[8 * p + 1] = e.falls;
+    put_way(row, 8 * p + 2, e.heaviest);
+    put_way(row, 8 * p + 5, e.lightest);
     p
 }
 
@@ -72,16 +92,22 @@ fn before(jumps: u64, falls: u64, jumps2: u64, falls2: u64) -> bool
     falls < falls2
 }
 
-// Whether the first tail is better: heavier, or as heavy and first. The lowest block in which their 'left by jump' sets
-// differ tells which is first.
-fn better(one: Way, other: Way) -> bool
-    ensures { λ r. ⌜ r ≡ next (heavier (one .weight) (other .weight)) (heavier (other .weight) (one .weight))
-        (earlier 64 (one .jumped) (other .jumped)) ⌝ }
+// Whether the first weight is preferred to the second: of the heaviest the heavier, of the lightest the lighter.
+pub fn prefers(lightest: bool, one: u64, other: u64) -> bool
+    ensures { λ r. ⌜ r ≡ preferred lightest one other ⌝ }
 {
-    if other.weight < one.weight {
+    if lightest { one < other } else { other < one }
+}
+
+// Whether the first tail is better: of the preferred weight, or of the same and first. The lowest block in which their
+// 'left by jump' sets differ tells which is first.
+fn better(lightest: bool, one: Way, other: Way) -> bool
+    ensures { λ r. ⌜ r ≡ betterOf lightest (wordsIn one) (wordsIn other) ⌝ }
+{
+    if prefers(lightest, one.weight, other.weight) {
         return true;
     }
-    if one.weight < other.weight {
+    if prefers(lightest, other.weight, one.weight) {
         return false;
     }
     words::has(
@@ -92,7 +118,7 @@ fn better(one: Way, other: Way) -> bool
 
 // The first of the held entries whose key is not before this one.
 fn place_of(row: &[u64], held: usize, jumps: u64, falls: u64) -> usize
-    requires { ⌜ 5 * held ≤ length (now row) ⌝ }
+    requires { ⌜ 8 * held ≤ length (now row) ⌝ }
     ensures { λ r. ⌜ Place (now (row .entry)) held (jumps, falls) r ⌝ }
 {
     let mut p = 0;
@@ -108,7 +134,7 @@ fn place_of(row: &[u64], held: usize, jumps: u64, falls: u64) -> usize
 
 // Whether the key is held at the place.
 fn is_held(row: &[u64], held: usize, p: usize, jumps: u64, falls: u64) -> bool
-    requires { ⌜ 5 * held ≤ length (now row) ⌝ }
+    requires { ⌜ 8 * held ≤ length (now row) ⌝ }
     ensures { λ r. ⌜ r ≡ ltb p held &&
         (eqb (entryAt (now (row .entry)) p .0 .0) jumps && eqb (entryAt (now (row .entry)) p .0 .1) falls) ⌝ }
 {
@@ -121,8 +147,8 @@ fn is_held(row: &[u64], held: usize, p: usize, jumps: u64, falls: u64) -> bool
 
 // The entries from one place to another, one place on.
 fn open_gap(row: &mut [u64], from: usize, to: usize)
-    requires { ⌜ (from ≤ to) × (5 * suc to ≤ length (now row)) ⌝ }
-    ensures { λ r. ⌜ Moved (now (row .entry)) (now (row .exit)) (5 * from) (5 * to) ⌝ }
+    requires { ⌜ (from ≤ to) × (8 * suc to ≤ length (now row)) ⌝ }
+    ensures { λ r. ⌜ Moved (now (row .entry)) (now (row .exit)) (8 * from) (8 * to) ⌝ }
 {
     let mut i = to;
     while from < i {
@@ -132,31 +158,40 @@ fn open_gap(row: &mut [u64], from: usize, to: usize)
     }
 }
 
-// The better of this entry and the one at the place.
-fn keep_better(row: &mut [u64], p: usize, e: Entry)
-    requires { ⌜ 5 * suc p ≤ length (now row) ⌝ }
-    ensures { λ r. ⌜ now (row .exit) ≡ cond (betterOf (tupleOf e .1) (entryAt (now (row .entry)) p .1))
-        (entryPut (now (row .entry)) p (tupleOf e)) (now (row .entry)) ⌝ }
+// The better of this way and the one in the words from a place on.
+fn keep_way(row: &mut [u64], at: usize, lightest: bool, way: Way)
+    requires { ⌜ at + 3 ≤ length (now row) ⌝ }
+    ensures { λ r. ⌜ now (row .exit) ≡ wayPut (now (row .entry)) at
+        (keepBest lightest (wordsIn way) (wayAt (now (row .entry)) at)) ⌝ }
 {
-    let held = entry_at(row, p);
-    if better(e.way, held.way) {
-        put_entry(row, p, e);
+    let held = way_at(row, at);
+    if better(lightest, way, held) {
+        put_way(row, at, way);
     }
+}
+
+// Of this entry and the one at the place, whose key is the same, the better of each choice.
+fn keep_better(row: &mut [u64], p: usize, e: Entry)
+    requires { ⌜ 8 * suc p ≤ length (now row) ⌝ }
+    ensures { λ r. ⌜ now (row .exit) ≡ entryKept (now (row .entry)) p (tupleOf e .1) ⌝ }
+{
+    keep_way(row, 8 * p + 2, false, e.heaviest);
+    keep_way(row, 8 * p + 5, true, e.lightest);
 }
 
 // The entry at the place, those from there on one place further.
 fn squeeze_in(row: &mut [u64], held: usize, p: usize, e: Entry)
-    requires { ⌜ (p ≤ held) × (5 * suc held ≤ length (now row)) ⌝ }
+    requires { ⌜ (p ≤ held) × (8 * suc held ≤ length (now row)) ⌝ }
     ensures { λ r. ⌜ Squeezed (now (row .entry)) (now (row .exit)) p held (tupleOf e) ⌝ }
 {
     open_gap(row, p, held);
     put_entry(row, p, e);
 }
 
-// One entry more in an ascending row, one for each key, the better one; how many are held then. The 65th key is
-// counted, and not put in.
+// One entry more in an ascending row, one for each key, the better of each choice; how many are held then. The 65th key
+// is counted, and not put in.
 pub fn insert(row: &mut [u64], held: usize, e: Entry) -> usize
-    requires { ⌜ (length (now row) ≡ 320) × (held ≤ 64) ⌝ }
+    requires { ⌜ (length (now row) ≡ 512) × (held ≤ 64) ⌝ }
     ensures { λ r. ⌜ Grown (inserted (tupleOf e) (entriesFrom (now (row .entry)) 0 held)) (now (row .entry))
         (now (row .exit)) r ⌝ }
 {

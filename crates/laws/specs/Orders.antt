@@ -9,7 +9,7 @@ use native.Mathlib.Nat.{add-comm}
 use native.Mathlib.Omega.{arith}
 use borrow.Author.Tests.{ltb-true, ltb-false, lt-ltb, le-ltb}
 use lib.Dec.{ltb}
-use Rattle.laws.specs.Terms.{next, pairb, heavier, lighter}
+use Rattle.laws.specs.Terms.{Choice, next, pairb, preferred}
 use Rattle.laws.specs.Tests.{split, clash, ltb-shift}
 
 pub record Order {A : Type 0} (lt : A → A → Bool) : Type 0 where
@@ -113,21 +113,20 @@ module _ {A : Type 0} (lt : A → A → Bool) where
     pub lexb-cons : (x : A) (p q : List A) → lexb (x ∷ p) (x ∷ q) ≡ lexb p q
     lexb-cons x p q = next-same o x _
 
--- ---- which weight is preferred: the heavier, or the lighter
+-- ---- which weight is preferred
 
-pub record Choice (prefers : ℕ → ℕ → Bool) : Type 0 where
+pub record Preference (prefers : ℕ → ℕ → Bool) : Type 0 where
   pub order : Order prefers
   pub shift : (c a b : ℕ) → prefers (c + a) (c + b) ≡ prefers a b
 
 -- a sum is not preferred where neither part is
-pub sum-unpreferred : {prefers : ℕ → ℕ → Bool} → Choice prefers → (a b c d : ℕ) → prefers a b ≡ false
+pub sum-unpreferred : {prefers : ℕ → ℕ → Bool} → Preference prefers → (a b c d : ℕ) → prefers a b ≡ false
     → prefers c d ≡ false → prefers (a + c) (b + d) ≡ false
 sum-unpreferred {prefers} ch a b c d p q =
     ntrans (ch .order) (a + c) (a + d) (b + d) (ch .shift a c d ∙ q)
     (ap₂ prefers (add-comm a d) (add-comm b d) ∙ ch .shift d a b ∙ p)
 
-pub heaviest : Choice heavier
-heaviest = record { order = flip-order ltb ltb-order; shift = λ c a b. ltb-shift c b a }
-
-pub lightest : Choice lighter
-lightest = record { order = ltb-order; shift = ltb-shift }
+-- of either choice
+pub preference : (choice : Choice) → Preference (preferred choice)
+preference false = record { order = flip-order ltb ltb-order; shift = λ c a b. ltb-shift c b a }
+preference true = record { order = ltb-order; shift = ltb-shift }

@@ -1,6 +1,6 @@
 -- The terms that the trusted definitions of the crates above are made of: membership, lists with a test, a list for
--- each entry, numbers in a row, tests for some number or some entry, pairs in order, sets as numbers. Definitions only;
--- their laws are in Tests, Lists, Orders and Sets.
+-- each entry, numbers in a row, tests for some number or some entry, pairs in order, the choice of heaviest or lightest
+-- (request A1), sets as numbers. Definitions only; their laws are in Tests, Lists, Orders and Sets.
 use mathlib.Core.Path.{_≡_}
 use mathlib.Core.Logic.{_⊎_}
 use mathlib.Core.Bool.{Bool, true, false, not, cond, _||_, _&&_}
@@ -67,6 +67,26 @@ heavier a b = ltb b a
 -- a weight is preferred to a heavier one
 abbrev pub lighter : ℕ → ℕ → Bool
 lighter a b = ltb a b
+
+-- the choice: false is of the heaviest, true of the lightest
+abbrev pub Choice : Type 0
+Choice = Bool
+
+abbrev pub heaviest : Choice
+heaviest = false
+
+abbrev pub lightest : Choice
+lightest = true
+
+-- which of two weights is preferred
+abbrev pub preferred : Choice → ℕ → ℕ → Bool
+preferred false = heavier
+preferred true = lighter
+
+-- of two values, one for each choice, the chosen one
+abbrev pub chosen : {A : Type 0} → Choice → A × A → A
+chosen false v = v .0
+chosen true v = v .1
 
 -- ---- sets of small numbers as numbers
 

@@ -1,6 +1,6 @@
 -- The words of the report's lines, the walk's line, and what the program lends and asks, after document 01, 'The
--- trainer's cases'. Trusted: definitions only. A text is a list of ASCII codes. Rests on text's Text and on the walk's
--- cases.
+-- trainer's cases', and request A1. Trusted: definitions only. A text is a list of ASCII codes. Rests on text's Text
+-- and on the walk's cases.
 use mathlib.Core.List.{List, [], _∷_}
 use Prim.Native.Nat.{ℕ}
 use lib.ListN.{replicate}
@@ -34,6 +34,14 @@ boundWord = 98 ∷ 111 ∷ 117 ∷ 110 ∷ 100 ∷ 32 ∷ []
 abbrev pub routeWord : List ℕ
 routeWord = 114 ∷ 111 ∷ 117 ∷ 116 ∷ 101 ∷ []
 
+-- "least "
+abbrev pub leastWord : List ℕ
+leastWord = 108 ∷ 101 ∷ 97 ∷ 115 ∷ 116 ∷ 32 ∷ []
+
+-- "least route"
+abbrev pub leastRouteWord : List ℕ
+leastRouteWord = 108 ∷ 101 ∷ 97 ∷ 115 ∷ 116 ∷ 32 ∷ 114 ∷ 111 ∷ 117 ∷ 116 ∷ 101 ∷ []
+
 -- "kept "
 abbrev pub keptWord : List ℕ
 keptWord = 107 ∷ 101 ∷ 112 ∷ 116 ∷ 32 ∷ []
@@ -50,12 +58,12 @@ overLine = 119 ∷ 97 ∷ 108 ∷ 107 ∷ 101 ∷ 100 ∷ 32 ∷ 111 ∷ 118 ∷
 
 -- Walked, or `over` when 41: where the sweep answers, the walk refuses by nothing else (report.Promise.only-over).
 abbrev pub walkedLine : WalkAnswer → List ℕ
-walkedLine (Walked iterations weight bound walked) = line walkedWord walked
+walkedLine (Walked iterations weight bound least leastTotal walked) = line walkedWord walked
 walkedLine (Refused number place) = overLine
 
--- The program's lent memory, 64 bytes for a route, and its walk budget.
-abbrev pub noRoute : List ℕ
-noRoute = replicate 64 0
+-- The program's lent memory, 128 bytes for both routes, and its walk budget.
+abbrev pub noRoutes : List ℕ
+noRoutes = replicate 128 0
 
 abbrev pub budget : ℕ
 budget = 100000

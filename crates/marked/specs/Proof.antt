@@ -26,7 +26,7 @@ use Rattle.form.specs.Form.{kindOf, startsFor, recordsFrom, badField, badTarget
 use Rattle.lower_laws.specs.Conditions.{contradict-says}
 use Rattle.lower_laws.specs.Loops.{countOf, count-found}
 use Rattle.lower_laws.specs.Steps.{later, first, within, found-none, found-some}
-use Rattle.theory.specs.Route.{Path, paths, conflict, tails, weight, best, bestRoute, dearest, routeOn, wayOf}
+use Rattle.theory.specs.Route.{Path, paths, conflict, tails, weight, best, bestRoute, sideOf, routeOn, wayOf}
 use Rattle.theory.specs.Route.{routeBytes}
 use Rattle.marked.specs.Table.{Case, counts, refused, conflicting, compatible, route, on, Claim, table}
 
@@ -57,9 +57,10 @@ right (counts initial step relation limit k) = fits initial && (ltb 0 k && eqb (
 right (refused initial step relation limit) = fits initial && eqb (countOf initial step relation limit) 0
 right (conflicting r c q d) = contradict (on r c) (on q d)
 right (compatible r c q d) = not (contradict (on r c) (on q d))
-right (route form bytes) =
+right (route choice form bytes) =
     accepted (judge form)
-    && (ltb 0 (length bytes) && alike (bytesOf (bodyOf form) (routeOn (bodyOf form) (dearest (bodyOf form)))) bytes)
+    && (ltb 0 (length bytes)
+    && alike (bytesOf (bodyOf form) (routeOn (bodyOf form) (sideOf (bodyOf form) choice))) bytes)
 
 -- the law of a row
 
@@ -93,12 +94,12 @@ law (refused initial step relation limit) h =
     (count-found initial (fits-out initial f) relation limit step)
 law (conflicting r c q d) h = contradict-says (on r c) (on q d) .0 h
 law (compatible r c q d) h = λ x. clash (contradict-says (on r c) (on q d) .1 x) (not-out _ h)
-law (route form bytes) h =
+law (route choice form bytes) h =
     let (a, r) = and-out (accepted (judge form)) _ h in
     let (p, e) = and-out (ltb 0 (length bytes)) _ r in (
       is-accepted (judge form) a,
-      found-route (bodyOf form) bytes (routeOn (bodyOf form) (dearest (bodyOf form))) (ltb-true 0 (length bytes) p)
-          (alike-out _ bytes e),
+      found-route (bodyOf form) bytes (routeOn (bodyOf form) (sideOf (bodyOf form) choice))
+          (ltb-true 0 (length bytes) p) (alike-out _ bytes e),
     )
 
 -- the test of the whole table, computed, and its law at each row

@@ -1,15 +1,16 @@
--- The marked cases of document 01, 'The trainer's cases', as one table, and what is claimed of a row. Trusted:
--- definitions only. Rests on the trusted definitions of form and theory.
+-- The marked cases of document 01, 'The trainer's cases', and the trainer's body's least route of request A1, as one
+-- table, and what is claimed of a row. Trusted: definitions only. Rests on the trusted definitions of form and theory.
 use mathlib.Core.List.{List, [], _∷_}
 use mathlib.Core.Option.{some}
 use mathlib.Core.Path.{_≡_}
 use Prim.Native.Nat.{ℕ}
 use lib.IntN.{ℤ, pos}
+use Rattle.laws.specs.Terms.{Choice, heaviest, lightest}
 use Rattle.form.specs.declared.Verdict.the-variants.{Accepted}
 use Rattle.form.specs.Conflict.{Condition, Contradict}
 use Rattle.form.specs.Counter.{Count}
 use Rattle.form.specs.Form.{judge, bodyOf}
-use Rattle.theory.specs.Route.{Path, dearest, routeOn, routeBytes}
+use Rattle.theory.specs.Route.{Path, sideOf, routeOn, routeBytes}
 
 pub data Case : Type 0 where
   -- initial, step, relation, limit: the loop count, or 20
@@ -18,8 +19,8 @@ pub data Case : Type 0 where
   -- two conditions on one variable, relation and constant each, conflict, or do not
   conflicting : ℕ → ℤ → ℕ → ℤ → Case
   compatible : ℕ → ℤ → ℕ → ℤ → Case
-  -- a form, and the route bytes of its first heaviest conflict-free route
-  route : List ℕ → List ℕ → Case
+  -- a form, and the route bytes of its first conflict-free route of the choice, heaviest or lightest
+  route : Choice → List ℕ → List ℕ → Case
 
 abbrev pub on : ℕ → ℤ → Condition
 on relation constant = record { variable = 0; relation = relation; constant = constant }
@@ -29,9 +30,9 @@ Claim (counts initial step relation limit k) = Count initial step relation limit
 Claim (refused initial step relation limit) = (k : ℕ) → Count initial step relation limit k → ⊥
 Claim (conflicting r c q d) = Contradict (on r c) (on q d)
 Claim (compatible r c q d) = Contradict (on r c) (on q d) → ⊥
-Claim (route form bytes) =
+Claim (route choice form bytes) =
     (judge form ≡ Accepted)
-    × ((best : ℕ × Path) × (routeOn (bodyOf form) (dearest (bodyOf form)) ≡ some best)
+    × ((best : ℕ × Path) × (routeOn (bodyOf form) (sideOf (bodyOf form) choice) ≡ some best)
     × (routeBytes (bodyOf form) (best .1) ≡ bytes))
 
 -- Relations: 0 =, 1 ≠, 2 <, 3 ≥, 4 >, 5 ≤
@@ -63,5 +64,6 @@ table =
     ∷ compatible 4 (pos 2) 2 (pos 4)
     ∷ conflicting 0 (pos 5) 1 (pos 5)
     ∷ compatible 3 (pos 2) 5 (pos 2)
-    ∷ route trainersForm (1 ∷ 0 ∷ 1 ∷ 2 ∷ 0 ∷ 2 ∷ 1 ∷ 3 ∷ [])
+    ∷ route heaviest trainersForm (1 ∷ 0 ∷ 1 ∷ 2 ∷ 0 ∷ 2 ∷ 1 ∷ 3 ∷ [])
+    ∷ route lightest trainersForm (2 ∷ 1 ∷ 0 ∷ 2 ∷ 0 ∷ 1 ∷ 0 ∷ 3 ∷ [])
     ∷ []

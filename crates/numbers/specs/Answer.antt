@@ -48,9 +48,18 @@ countSaid answer = Counter.said answer
 abbrev pub countValues : CountAnswer → Counter.Values
 countValues answer = record { number = answer .number; place = answer .place; iterations = answer .iterations }
 
-abbrev pub walkNumbers : (number place iterations weight bound walked : ℕ) → WalkNumbers
-walkNumbers number place iterations weight bound walked =
-    record { number = number; place = place; iterations = iterations; weight = weight; bound = bound; walked = walked }
+abbrev pub walkNumbers : (number place iterations weight bound least leastTotal walked : ℕ) → WalkNumbers
+walkNumbers number place iterations weight bound least leastTotal walked =
+    record {
+      number = number;
+      place = place;
+      iterations = iterations;
+      weight = weight;
+      bound = bound;
+      least = least;
+      «least_total» = leastTotal;
+      walked = walked;
+    }
 
 -- The full walk's, as its own definition has it
 abbrev pub walkValues : WalkNumbers → Values
@@ -61,6 +70,8 @@ walkValues answer =
       iterations = answer .iterations;
       weight = answer .weight;
       bound = answer .bound;
+      least = answer .least;
+      leastTotal = answer .«least_total»;
       keptOrWalked = answer .walked;
     }
 
@@ -68,9 +79,18 @@ walkValues answer =
 abbrev pub listNumbers : Listed → ListNumbers
 listNumbers r = record { number = Conflict.numberOf r; place = Conflict.placeOf r; entries = Conflict.bytesOf r / 5 }
 
-abbrev pub sweepNumbers : (number place iterations weight bound kept : ℕ) → SweepNumbers
-sweepNumbers number place iterations weight bound kept =
-    record { number = number; place = place; iterations = iterations; weight = weight; bound = bound; kept = kept }
+abbrev pub sweepNumbers : (number place iterations weight bound least leastTotal kept : ℕ) → SweepNumbers
+sweepNumbers number place iterations weight bound least leastTotal kept =
+    record {
+      number = number;
+      place = place;
+      iterations = iterations;
+      weight = weight;
+      bound = bound;
+      least = least;
+      «least_total» = leastTotal;
+      kept = kept;
+    }
 
 -- The sweep's
 abbrev pub sweepSaid : SweepAnswer → Values
@@ -84,13 +104,15 @@ sweepValues answer =
       iterations = answer .iterations;
       weight = answer .weight;
       bound = answer .bound;
+      least = answer .least;
+      leastTotal = answer .«least_total»;
       keptOrWalked = answer .kept;
     }
 
 abbrev pub sweptOutcome : SweepNumbers → (route : List ℕ) → (table : List Entry) → Sweep.Outcome
 sweptOutcome answer route table = record { values = sweepValues answer; route = route; table = table }
 
--- The sweep over a table of 1,536 zero entries of its own, whatever that holds afterwards
+-- The sweep over a table of 1,024 zero entries of its own, whatever that holds afterwards
 abbrev pub OwnSweepOwed : (form route : List ℕ) → SweepNumbers → List ℕ → Type 0
 OwnSweepOwed form route answer held =
     (table : List Entry) × Sweep.SweepOwed form route Sweep.ownTable (sweptOutcome answer held table)

@@ -41,6 +41,8 @@ pub struct WalkNumbers {
     pub iterations: u64,
     pub weight: u64,
     pub bound: u64,
+    pub least: u64,
+    pub least_total: u64,
     pub walked: u64,
 }
 
@@ -52,6 +54,8 @@ pub struct SweepNumbers {
     pub iterations: u64,
     pub weight: u64,
     pub bound: u64,
+    pub least: u64,
+    pub least_total: u64,
     pub kept: u64,
 }
 
@@ -119,9 +123,11 @@ fn walk_numbers(
     iterations: u64,
     weight: u64,
     bound: u64,
+    least: u64,
+    least_total: u64,
     walked: u64,
 ) -> WalkNumbers
-    ensures { λ r. ⌜ r ≡ walkNumbers number place iterations weight bound walked ⌝ }
+    ensures { λ r. ⌜ r ≡ walkNumbers number place iterations weight bound least «least_total» walked ⌝ }
 {
     WalkNumbers {
         number,
@@ -129,6 +135,8 @@ fn walk_numbers(
         iterations,
         weight,
         bound,
+        least,
+        least_total,
         walked,
     }
 }
@@ -141,10 +149,12 @@ pub fn of_walk(walk: WalkAnswer) -> WalkNumbers
             iterations,
             weight,
             bound,
+            least,
+            least_total,
             walked,
-        } => walk_numbers(0, 0, iterations, weight, bound, walked),
+        } => walk_numbers(0, 0, iterations, weight, bound, least, least_total, walked),
         WalkAnswer::Refused { number, place } => {
-            walk_numbers(number as u64, place as u64, 0, 0, 0, 0)
+            walk_numbers(number as u64, place as u64, 0, 0, 0, 0, 0, 0)
         }
     }
 }
@@ -155,9 +165,11 @@ fn sweep_numbers(
     iterations: u64,
     weight: u64,
     bound: u64,
+    least: u64,
+    least_total: u64,
     kept: u64,
 ) -> SweepNumbers
-    ensures { λ r. ⌜ r ≡ sweepNumbers number place iterations weight bound kept ⌝ }
+    ensures { λ r. ⌜ r ≡ sweepNumbers number place iterations weight bound least «least_total» kept ⌝ }
 {
     SweepNumbers {
         number,
@@ -165,6 +177,8 @@ fn sweep_numbers(
         iterations,
         weight,
         bound,
+        least,
+        least_total,
         kept,
     }
 }
@@ -177,10 +191,12 @@ pub fn of_sweep(sweep: SweepAnswer) -> SweepNumbers
             iterations,
             weight,
             bound,
+            least,
+            least_total,
             kept,
-        } => sweep_numbers(0, 0, iterations, weight, bound, kept),
+        } => sweep_numbers(0, 0, iterations, weight, bound, least, least_total, kept),
         SweepAnswer::Refused { number, place } => {
-            sweep_numbers(number as u64, place as u64, 0, 0, 0, 0)
+            sweep_numbers(number as u64, place as u64, 0, 0, 0, 0, 0, 0)
         }
     }
 }

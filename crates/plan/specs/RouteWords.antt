@@ -2,13 +2,13 @@
 -- Adding; theory's `bytes-words` says that they are the route's.
 use mathlib.Core.Path.{_≡_, refl, ap, sym, subst, _∙_}
 use mathlib.Core.Bool.{cond}
-use mathlib.Core.List.{List, [], _∷_, _++_, map}
-use Prim.Native.Nat.{ℕ, zero, suc, _+_, _≤_}
+use mathlib.Core.List.{List, [], _∷_, _++_, map, append-assoc}
+use Prim.Native.Nat.{ℕ, zero, suc, _+_, _*_, _≤_}
 use native.Mathlib.Nat.{zero-add}
 use native.Mathlib.Numerals.{add-one}
 use native.Mathlib.Omega.{arith}
 use lib.Dec.{eqb}
-use lib.ListN.{length, drop, set, length-map}
+use lib.ListN.{length, drop, set, length-map, length-append}
 use Rattle.lent.specs.Adding.{Adds, then, one, told, from-start}
 use Rattle.laws.specs.Terms.{bit, range}
 
@@ -64,9 +64,26 @@ module _ (count jumped fallen : ℕ) where
   unfolding bytesOf
   written-all lent held at b e w = subst (λ (n : ℕ). Adds lent at held (at + n) (bytesBelow n)) e w
 
-  -- from the start on
-  pub from-first : (lent held : List ℕ) (r : ℕ) → count ≤ length lent
-      → Adds lent 0 held r (bytesOf count jumped fallen) → held ≡ bytesOf count jumped fallen ++ drop count lent
-  from-first lent held r room w =
-      from-start w (omega (arith, bytes-length))
-      ∙ ap (λ (n : ℕ). bytesOf count jumped fallen ++ drop n lent) bytes-length
+-- two routes' bytes from the start on, one behind the other
+pub both-from-first : (count jumped fallen jumped2 fallen2 : ℕ) {lent held written : List ℕ} {r s : ℕ}
+    → 2 * count ≤ length lent → Adds lent 0 held r (bytesOf count jumped fallen)
+    → Adds held r written s (bytesOf count jumped2 fallen2)
+    → written ≡ bytesOf count jumped fallen ++ (bytesOf count jumped2 fallen2 ++ drop (2 * count) lent)
+both-from-first count jumped fallen jumped2 fallen2 {lent = lent} room w v =
+    from-start (then w v) (omega (arith, size)) ∙ ap (λ (n : ℕ). (first ++ second) ++ drop n lent) size
+    ∙ append-assoc first second (drop (2 * count) lent)
+  where
+    first : List ℕ
+    first = bytesOf count jumped fallen
+
+    second : List ℕ
+    second = bytesOf count jumped2 fallen2
+
+    size : length (first ++ second) ≡ 2 * count
+    size =
+        omega (
+          arith,
+          length-append first second,
+          bytes-length count jumped fallen,
+          bytes-length count jumped2 fallen2,
+        )

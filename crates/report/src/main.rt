@@ -9,19 +9,23 @@ use sweep_steps::SweepAnswer;
 
 // The text for any bytes, at the start of the lent ones; how long it is.
 fn report(form: &[u8], out: &mut [u8]) -> usize
-    requires { ⌜ 1700 ≤ length (now out) ⌝ }
-    ensures { λ r. ⌜ Reported (now (form .entry)) (take r (now (out .exit))) × (r ≤ 1700) ⌝ }
+    requires { ⌜ 3200 ≤ length (now out) ⌝ }
+    ensures { λ r. ⌜ Reported (now (form .entry)) (take r (now (out .exit))) × (r ≤ 3200) ⌝ }
 {
-    let mut route = [0u8; 64];
-    match sweep::sweep_own(form, &mut route) {
+    let mut routes = [0u8; 128];
+    match sweep::sweep_own(form, &mut routes) {
         SweepAnswer::Routed {
             iterations,
             weight,
             bound,
+            least,
+            least_total: _,
             kept,
         } => {
-            let a = lines::five_lines(out, form, iterations, weight, bound);
-            lines::three_lines(out, a, form, kept, &route)
+            let n = lines::blocks(form);
+            let a = lines::first_five(out, form, n, iterations, weight, bound);
+            let both = &routes[..];
+            lines::last_five(out, a, form, &both[..n], least, &both[n..2 * n], kept)
         }
         SweepAnswer::Refused { number, place } => text::refused(out, number as u64, place as u64),
     }

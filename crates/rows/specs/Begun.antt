@@ -13,33 +13,37 @@ use Rattle.theory.specs.Row.{Key}
 use Rattle.theory.specs.Edges.{noEdges}
 use Rattle.theory.specs.SweepWords.{Words}
 use Rattle.theory.specs.Plan.{costAt}
-use Rattle.entries.specs.Entries.{entriesFrom, entryPut, put-length, put-at, put-above}
+use Rattle.entries.specs.Entries.{Both, entriesFrom, entryPut, put-length, put-at, put-above}
 
 -- an empty row
 abbrev pub zeroRow : List ℕ
-zeroRow = replicate 320 0
+zeroRow = replicate 512 0
+
+-- the last block's own way: its cost, and no block that is left
+abbrev pub ownWay : List ℕ → (b : ℕ) → Words
+ownWay plan b = (costAt plan b 0, (0, 0))
 
 -- the row of the last block begins with its own entry
-abbrev pub begunWith : List ℕ → (count b : ℕ) → List (Key × Words)
-begunWith plan count b = cond (eqb (suc b) count) ((noEdges, (costAt plan b 0, (0, 0))) ∷ []) []
+abbrev pub begunWith : List ℕ → (count b : ℕ) → List (Key × Both)
+begunWith plan count b = cond (eqb (suc b) count) ((noEdges, (ownWay plan b, ownWay plan b)) ∷ []) []
 
 -- the row of 64 entries holds r, and zeros behind it
-pub record Holds (r : List (Key × Words)) (row : List ℕ) (n : ℕ) : Type 0 where
+pub record Holds (r : List (Key × Both)) (row : List ℕ) (n : ℕ) : Type 0 where
   pub few : n ≤ 64
-  pub size : length row ≡ 320
+  pub size : length row ≡ 512
   pub held : entriesFrom row 0 n ≡ r
-  pub zeros : (k : ℕ) → 5 * n ≤ k → getD row k 0 ≡ 0
+  pub zeros : (k : ℕ) → 8 * n ≤ k → getD row k 0 ≡ 0
 
-pub zero-length : length zeroRow ≡ 320
-zero-length = length-replicate {A = ℕ} 320 0
+pub zero-length : length zeroRow ≡ 512
+zero-length = length-replicate {A = ℕ} 512 0
 
 pub zero-at : (k : ℕ) → getD zeroRow k 0 ≡ 0
-zero-at k = split (ltb k 320) (λ h. getD-replicate 320 k 0 0 (ltb-true k 320 h))
-    (λ h. List·getD-eq-default zeroRow 0 {n = k} (omega (arith, ltb-false k 320 h, zero-length)))
+zero-at k = split (ltb k 512) (λ h. getD-replicate 512 k 0 0 (ltb-true k 512 h))
+    (λ h. List·getD-eq-default zeroRow 0 {n = k} (omega (arith, ltb-false k 512 h, zero-length)))
 
 module _ (plan : List ℕ) (count b : ℕ) where
-  abbrev own : Key × Words
-  own = (noEdges, (costAt plan b 0, (0, 0)))
+  abbrev own : Key × Both
+  own = (noEdges, (ownWay plan b, ownWay plan b))
 
   pub begun-last : suc b ≡ count → Holds (begunWith plan count b) (entryPut zeroRow 0 own) 1
   unfolding entriesFrom

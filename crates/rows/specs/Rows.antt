@@ -13,24 +13,24 @@ use lib.Bits.{bitOr}
 use native.Mathlib.Omega.{arith}
 use lib.Dec.{eqb}
 use lib.ListN.{length, getD, List·getD-eq-default}
+use Rattle.laws.specs.Terms.{Choice, chosen}
 use Rattle.laws.specs.Tests.{split}
 use Rattle.laws.specs.Rows.{insert-grows}
 use Rattle.theory.specs.Row.{Key, keyBefore}
 use Rattle.theory.specs.Machine.{push, pour}
-use Rattle.theory.specs.SweepWords.{Words}
-use Rattle.rows.specs.declared.Side.{Side}
+use Rattle.rows.specs.declared.Half.{Half}
 use Rattle.theory.specs.Plan.{costAt, IsWay}
 use Rattle.rows.specs.declared.Tails.{Tails}
-use Rattle.entries.specs.Entries.{entryOf, entryAt, inserted, entriesFrom, betterOf, keepBest, Grown, entries-length}
-use Rattle.rows.specs.Steps.{sideOf, hitsOf, openedOf, stepKey, stepWords}
+use Rattle.entries.specs.Entries.{Both, entryAt, inserted, entriesFrom, keepBoth, Grown, entries-length}
+use Rattle.rows.specs.Steps.{halfOf, hitsOf, openedOf, stepKey, stepBoth}
 
 -- the row with an entry's longer tail, or the row where the step drops it
-abbrev pub pushed : (jumps falls : Side) (cost : ℕ) → Key × Words → List (Key × Words) → List (Key × Words)
-pushed jumps falls cost e r = push keyBefore betterOf (stepKey jumps falls (e .0)) (stepWords jumps falls cost (e .1)) r
+abbrev pub pushed : (jumps falls : Half) (cost : ℕ) → Key × Both → List (Key × Both) → List (Key × Both)
+pushed jumps falls cost e r = push keyBefore keepBoth (stepKey jumps falls (e .0)) (stepBoth jumps falls cost (e .1)) r
 
 -- the row with the longer tails of all the entries
-abbrev pub poured : (jumps falls : Side) (cost : ℕ) → List (Key × Words) → List (Key × Words) → List (Key × Words)
-poured jumps falls cost l r = pour keyBefore betterOf (stepKey jumps falls) (stepWords jumps falls cost) l r
+abbrev pub poured : (jumps falls : Half) (cost : ℕ) → List (Key × Both) → List (Key × Both) → List (Key × Both)
+poured jumps falls cost l r = pour keyBefore keepBoth (stepKey jumps falls) (stepBoth jumps falls cost) l r
 
 -- the row of the target by a way, and how many entries it has; its entries
 abbrev pub sourceOf : (first second : List ℕ) → ℕ → List ℕ
@@ -39,16 +39,16 @@ sourceOf first second way = cond (eqb way 1) first second
 abbrev pub manyOf : Tails → ℕ → ℕ
 manyOf tails way = cond (eqb way 1) (tails .jumps) (tails .falls)
 
-abbrev pub tailsBy : Tails → (first second : List ℕ) → ℕ → List (Key × Words)
+abbrev pub tailsBy : Tails → (first second : List ℕ) → ℕ → List (Key × Both)
 tailsBy tails first second way = entriesFrom (sourceOf first second way) 0 (manyOf tails way)
 
 module _ (plan : List ℕ) (b : ℕ) where
   -- the tails by one way
-  unfoldable pub pouredBy : (way : ℕ) → (tails : List (Key × Words)) → List (Key × Words) → List (Key × Words)
-  pouredBy way tails r = poured (sideOf plan b way 1) (sideOf plan b way 2) (costAt plan b way) tails r
+  unfoldable pub pouredBy : (way : ℕ) → (tails : List (Key × Both)) → List (Key × Both) → List (Key × Both)
+  pouredBy way tails r = poured (halfOf plan b way 1) (halfOf plan b way 2) (costAt plan b way) tails r
 
   -- the tails by this way and those after it
-  unfoldable pub leftFrom : (tails : ℕ → List (Key × Words)) → ℕ → List (Key × Words) → List (Key × Words)
+  unfoldable pub leftFrom : (tails : ℕ → List (Key × Both)) → ℕ → List (Key × Both) → List (Key × Both)
   leftFrom tails way r = cond (eqb way 1) (pouredBy 2 (tails 2) (pouredBy 1 (tails 1) r))
       (cond (eqb way 2) (pouredBy 2 (tails 2) r) r)
 
@@ -56,12 +56,12 @@ module _ (plan : List ℕ) (b : ℕ) where
   pub record Ready (tails : Tails) (first second : List ℕ) : Type 0 where
     pub size : length plan ≡ 1024
     pub below : b < 64
-    pub first-size : length first ≡ 320
-    pub second-size : length second ≡ 320
+    pub first-size : length first ≡ 512
+    pub second-size : length second ≡ 512
     pub jumps-few : tails .jumps ≤ 64
     pub falls-few : tails .falls ≤ 64
-    pub light : (way i : ℕ) → i < manyOf tails way → costAt plan b way + entryAt
-        (sourceOf first second way) i .1 .0 < 2 ^ 64
+    pub light : (choice : Choice) (way i : ℕ) → i < manyOf tails way
+        → costAt plan b way + chosen choice (entryAt (sourceOf first second way) i .1) .0 < 2 ^ 64
 
 pub many-few : (plan : List ℕ) (b : ℕ) (tails : Tails) (first second : List ℕ) → Ready plan b tails first second →
     (way : ℕ) → manyOf tails way ≤ 64
@@ -73,26 +73,26 @@ many-few plan b tails first second ready way = by (eqb way 1)
 
 -- ---- a row only grows
 
-module _ (jumps falls : Side) (cost : ℕ) where
-  pub pushed-grows : (e : Key × Words) (r : List (Key × Words)) → length r ≤ length (pushed jumps falls cost e r)
+module _ (jumps falls : Half) (cost : ℕ) where
+  pub pushed-grows : (e : Key × Both) (r : List (Key × Both)) → length r ≤ length (pushed jumps falls cost e r)
   pushed-grows e r = by (stepKey jumps falls (e .0))
     where
-      by : (o : Option Key) → length r ≤ length (push keyBefore betterOf o (stepWords jumps falls cost (e .1)) r)
+      by : (o : Option Key) → length r ≤ length (push keyBefore keepBoth o (stepBoth jumps falls cost (e .1)) r)
       by none = le-refl (length r)
-      by (some k) = insert-grows keyBefore keepBest (k, stepWords jumps falls cost (e .1)) r
+      by (some k) = insert-grows keyBefore keepBoth (k, stepBoth jumps falls cost (e .1)) r
 
-  pub poured-grows : (l r : List (Key × Words)) → length r ≤ length (poured jumps falls cost l r)
+  pub poured-grows : (l r : List (Key × Both)) → length r ≤ length (poured jumps falls cost l r)
   unfolding pour
   poured-grows [] r = le-refl (length r)
   poured-grows (e ∷ l) r = le-trans (pushed-grows e r) (poured-grows l (pushed jumps falls cost e r))
 
-module _ (plan : List ℕ) (b : ℕ) (tails : ℕ → List (Key × Words)) where
-  pub left-grows : (way : ℕ) (r : List (Key × Words)) → length r ≤ length (leftFrom plan b tails way r)
+module _ (plan : List ℕ) (b : ℕ) (tails : ℕ → List (Key × Both)) where
+  pub left-grows : (way : ℕ) (r : List (Key × Both)) → length r ≤ length (leftFrom plan b tails way r)
   unfolding leftFrom pouredBy
   left-grows way r = by (eqb way 1) (eqb way 2)
     where
-      one : (way : ℕ) (r : List (Key × Words)) → length r ≤ length (pouredBy plan b way (tails way) r)
-      one way r = poured-grows (sideOf plan b way 1) (sideOf plan b way 2) (costAt plan b way) (tails way) r
+      one : (way : ℕ) (r : List (Key × Both)) → length r ≤ length (pouredBy plan b way (tails way) r)
+      one way r = poured-grows (halfOf plan b way 1) (halfOf plan b way 2) (costAt plan b way) (tails way) r
 
       by : (c d : Bool) → length r ≤ length (cond c (pouredBy plan b 2 (tails 2) (pouredBy plan b 1 (tails 1) r))
           (cond d (pouredBy plan b 2 (tails 2) r) r))
@@ -103,18 +103,18 @@ module _ (plan : List ℕ) (b : ℕ) (tails : ℕ → List (Key × Words)) where
 -- ---- a row under construction
 
 -- the row holds n entries, and what is left to do with them gives the whole; the words past them are as they were
-pub record Filling (todo : List (Key × Words) → List (Key × Words)) (whole : List (Key × Words)) (old row : List ℕ)
+pub record Filling (todo : List (Key × Both) → List (Key × Both)) (whole : List (Key × Both)) (old row : List ℕ)
     (n : ℕ) : Type 0 where
   pub few : n ≤ 64
-  pub size : length row ≡ 320
+  pub size : length row ≡ 512
   pub left : todo (entriesFrom row 0 n) ≡ whole
-  pub rest : (k : ℕ) → 5 * n ≤ k → getD row k 0 ≡ getD old k 0
+  pub rest : (k : ℕ) → 8 * n ≤ k → getD row k 0 ≡ getD old k 0
 
-pub filling-start : (todo : List (Key × Words) → List (Key × Words)) (row : List ℕ) (n : ℕ) → n ≤ 64 → length row ≡ 320
+pub filling-start : (todo : List (Key × Both) → List (Key × Both)) (row : List ℕ) (n : ℕ) → n ≤ 64 → length row ≡ 512
     → Filling todo (todo (entriesFrom row 0 n)) row row n
 filling-start todo row n h s = record { few = h; size = s; left = refl; rest = λ k b. refl }
 
-pub filling-end : (whole : List (Key × Words)) (old row : List ℕ) (n : ℕ) → Filling (λ r. r) whole old row n
+pub filling-end : (whole : List (Key × Both)) (old row : List ℕ) (n : ℕ) → Filling (λ r. r) whole old row n
     → Grown whole old row n
 filling-end whole old row n f = record {
   most = omega (arith, f .few);
@@ -127,9 +127,9 @@ filling-end whole old row n f = record {
     never : 64 < n → ⊥
     never h = omega (arith, f .few)
 
-module _ (todo then : List (Key × Words) → List (Key × Words)) (whole : List (Key × Words)) (old row : List ℕ) (n : ℕ)
+module _ (todo then : List (Key × Both) → List (Key × Both)) (whole : List (Key × Both)) (old row : List ℕ) (n : ℕ)
     (f : Filling todo whole old row n) where
-  pub filling-same : ((r : List (Key × Words)) → todo r ≡ then r) → Filling then whole old row n
+  pub filling-same : ((r : List (Key × Both)) → todo r ≡ then r) → Filling then whole old row n
   filling-same h = record {
     few = f .few;
     size = f .size;
@@ -137,11 +137,11 @@ module _ (todo then : List (Key × Words) → List (Key × Words)) (whole : List
     rest = f .rest;
   }
 
-  module _ (one : List (Key × Words) → List (Key × Words))
-      (one-then : (r : List (Key × Words)) → todo r ≡ then (one r))
-      (grows : (r : List (Key × Words)) → length r ≤ length (one r))
+  module _ (one : List (Key × Both) → List (Key × Both))
+      (one-then : (r : List (Key × Both)) → todo r ≡ then (one r))
+      (grows : (r : List (Key × Both)) → length r ≤ length (one r))
       (new : List ℕ) (m : ℕ) (grown : Grown (one (entriesFrom row 0 n)) row new m) where
-    pub filling-more : length new ≡ 320 → m ≤ 64 → Filling then whole old new m
+    pub filling-more : length new ≡ 512 → m ≤ 64 → Filling then whole old new m
     filling-more s h = record {
       few = h;
       size = s;
@@ -159,14 +159,14 @@ module _ (todo then : List (Key × Words) → List (Key × Words)) (whole : List
         )
 
     -- the 65th set
-    pub filling-over : ((r : List (Key × Words)) → length r ≤ length (then r)) → 64 < m → 64 < length whole
+    pub filling-over : ((r : List (Key × Both)) → length r ≤ length (then r)) → 64 < m → 64 < length whole
     filling-over g h =
         let e : length (then (one (entriesFrom row 0 n))) ≡ length whole = ap length
         (sym (one-then (entriesFrom row 0 n)) ∙ f .left) in
         omega (arith, e, g (one (entriesFrom row 0 n)), grown .over h)
 
 -- the 65th set has been met: the words past it are none
-pub grown-past : (whole : List (Key × Words)) (old row : List ℕ) (n : ℕ) → length old ≡ 320 → length row ≡ 320 → n ≤ 65
+pub grown-past : (whole : List (Key × Both)) (old row : List ℕ) (n : ℕ) → length old ≡ 512 → length row ≡ 512 → n ≤ 65
     → 64 < n → 64 < length whole → Grown whole old row n
 grown-past whole old row n s z few h more = record {
   most = few;
@@ -187,15 +187,15 @@ grown-none l n h = record { most = omega arith; held = λ b. refl; over = λ b. 
 
 -- ---- one turn of the loops
 
-module _ (jumps falls : Side) (cost : ℕ) (source : List ℕ) (many : ℕ) where
+module _ (jumps falls : Half) (cost : ℕ) (source : List ℕ) (many : ℕ) where
   -- the tails from i on
-  abbrev toCome : ℕ → List (Key × Words) → List (Key × Words)
+  abbrev toCome : ℕ → List (Key × Both) → List (Key × Both)
   toCome i r = poured jumps falls cost (entriesFrom source i (many - i)) r
 
-  tails-begin : (r : List (Key × Words)) → poured jumps falls cost (entriesFrom source 0 many) r ≡ toCome 0 r
+  tails-begin : (r : List (Key × Both)) → poured jumps falls cost (entriesFrom source 0 many) r ≡ toCome 0 r
   tails-begin r = ap (λ n. poured jumps falls cost (entriesFrom source 0 n) r) (sym (sub-zero many))
 
-  tails-turn : (i : ℕ) → i < many → (r : List (Key × Words)) → toCome i r ≡ toCome (i + 1)
+  tails-turn : (i : ℕ) → i < many → (r : List (Key × Both)) → toCome i r ≡ toCome (i + 1)
       (pushed jumps falls cost (entryAt source i) r)
   unfolding entriesFrom pour
   tails-turn i h r =
@@ -206,7 +206,7 @@ module _ (jumps falls : Side) (cost : ℕ) (source : List ℕ) (many : ℕ) wher
       one-less : (i : ℕ) → i < many → many - i ≡ suc (many - (i + 1))
       one-less i h = omega arith
 
-  tails-end : (i : ℕ) → many ≤ i → (r : List (Key × Words)) → toCome i r ≡ r
+  tails-end : (i : ℕ) → many ≤ i → (r : List (Key × Both)) → toCome i r ≡ r
   unfolding entriesFrom pour
   tails-end i h r = ap (λ n. poured jumps falls cost (entriesFrom source i n) r) (no-more i h)
     where
@@ -214,24 +214,24 @@ module _ (jumps falls : Side) (cost : ℕ) (source : List ℕ) (many : ℕ) wher
       no-more i h = omega arith
 
   -- the row with the tails from i on to come
-  abbrev pub AtTail : (whole : List (Key × Words)) (old row : List ℕ) (held i : ℕ) → Type 0
+  abbrev pub AtTail : (whole : List (Key × Both)) (old row : List ℕ) (held i : ℕ) → Type 0
   AtTail whole old row held i = Filling (toCome i) whole old row held
 
-  pub at-first : (row : List ℕ) (held : ℕ) → held ≤ 64 → length row ≡ 320 → AtTail
+  pub at-first : (row : List ℕ) (held : ℕ) → held ≤ 64 → length row ≡ 512 → AtTail
       (poured jumps falls cost (entriesFrom source 0 many) (entriesFrom row 0 held)) row row held 0
   at-first row held few size =
       filling-same (poured jumps falls cost (entriesFrom source 0 many)) (toCome 0) _ row row held
       (filling-start (poured jumps falls cost (entriesFrom source 0 many)) row held few size) tails-begin
 
-  pub at-last : (whole : List (Key × Words)) (old row : List ℕ) (held i : ℕ) → many ≤ i → AtTail whole old row held i
+  pub at-last : (whole : List (Key × Both)) (old row : List ℕ) (held i : ℕ) → many ≤ i → AtTail whole old row held i
       → Grown whole old row held
   at-last whole old row held i h f = filling-end whole old row held
       (filling-same (toCome i) (λ r. r) whole old row held f (tails-end i h))
 
-  module _ (whole : List (Key × Words)) (old row : List ℕ) (held i : ℕ) (f : AtTail whole old row held i)
+  module _ (whole : List (Key × Both)) (old row : List ℕ) (held i : ℕ) (f : AtTail whole old row held i)
       (h : i < many) (new : List ℕ) (m : ℕ)
       (grown : Grown (pushed jumps falls cost (entryAt source i) (entriesFrom row 0 held)) row new m) where
-    pub at-next : length new ≡ 320 → m ≤ 64 → AtTail whole old new m (i + 1)
+    pub at-next : length new ≡ 512 → m ≤ 64 → AtTail whole old new m (i + 1)
     at-next =
         filling-more (toCome i) (toCome (i + 1)) whole old row held f
         (pushed jumps falls cost (entryAt source i)) (tails-turn i h)
@@ -244,13 +244,13 @@ module _ (jumps falls : Side) (cost : ℕ) (source : List ℕ) (many : ℕ) wher
         (pushed-grows jumps falls cost (entryAt source i)) new m grown
         (poured-grows jumps falls cost (entriesFrom source (i + 1) (many - (i + 1))))
 
-module _ (plan : List ℕ) (b : ℕ) (tails : ℕ → List (Key × Words)) where
+module _ (plan : List ℕ) (b : ℕ) (tails : ℕ → List (Key × Both)) where
   -- no way is left
-  pub ways-end : (way : ℕ) → 3 ≤ way → way ≤ 3 → (r : List (Key × Words)) → leftFrom plan b tails way r ≡ r
+  pub ways-end : (way : ℕ) → 3 ≤ way → way ≤ 3 → (r : List (Key × Both)) → leftFrom plan b tails way r ≡ r
   unfolding leftFrom
   ways-end way low high r = let e : way ≡ 3 = omega arith in rw e refl
 
-  left-step : (way : ℕ) → IsWay way → (r : List (Key × Words)) → leftFrom plan b tails way r ≡ leftFrom plan b tails
+  left-step : (way : ℕ) → IsWay way → (r : List (Key × Both)) → leftFrom plan b tails way r ≡ leftFrom plan b tails
       (way + 1) (pouredBy plan b way (tails way) r)
   unfolding leftFrom pouredBy
   left-step way (low, high) r = split (eqb way 1) (λ q. one (eqb-true way 1 q))
@@ -263,20 +263,20 @@ module _ (plan : List ℕ) (b : ℕ) (tails : ℕ → List (Key × Words)) where
       two e = rw e refl
 
   -- one way's tails, by the words that the code has of it
-  module _ (way cost : ℕ) (jumps falls : Side) (l : List (Key × Words)) (j-is : jumps ≡ sideOf plan b way 1)
-      (f-is : falls ≡ sideOf plan b way 2) (c-is : cost ≡ costAt plan b way)
+  module _ (way cost : ℕ) (jumps falls : Half) (l : List (Key × Both)) (j-is : jumps ≡ halfOf plan b way 1)
+      (f-is : falls ≡ halfOf plan b way 2) (c-is : cost ≡ costAt plan b way)
       (l-is : l ≡ tails way) (v : IsWay way) where
-    way-turn : (r : List (Key × Words)) → leftFrom plan b tails way r ≡ leftFrom plan b tails (way + 1)
+    way-turn : (r : List (Key × Both)) → leftFrom plan b tails way r ≡ leftFrom plan b tails (way + 1)
         (poured jumps falls cost l r)
     unfolding pouredBy
     way-turn r = left-step way v r ∙ ap (leftFrom plan b tails (way + 1))
         (λ i. poured (sym j-is i) (sym f-is i) (sym c-is i) (sym l-is i) r)
 
     -- the row with the ways from this one on to come, and the row with this way's tails, made of it
-    module _ (whole : List (Key × Words)) (old row : List ℕ) (held : ℕ)
+    module _ (whole : List (Key × Both)) (old row : List ℕ) (held : ℕ)
         (f : Filling (leftFrom plan b tails way) whole old row held) where
       pub way-next : (new : List ℕ) (m : ℕ) → Grown (poured jumps falls cost l (entriesFrom row 0 held)) row new m
-          → length new ≡ 320 → m ≤ 64
+          → length new ≡ 512 → m ≤ 64
           → Filling (leftFrom plan b tails (way + 1)) whole old new m
       way-next new m grown =
           filling-more (leftFrom plan b tails way) (leftFrom plan b tails (way + 1)) whole old row held f
@@ -291,14 +291,13 @@ module _ (plan : List ℕ) (b : ℕ) (tails : ℕ → List (Key × Words)) where
 
 -- ---- one entry
 
-module _ (jumps falls : Side) (cost : ℕ) (e : Key × Words) (r : List (Key × Words)) (j f : ℕ)
+module _ (jumps falls : Half) (cost : ℕ) (e : Key × Both) (r : List (Key × Both)) (j f : ℕ)
     (j-is : j ≡ hitsOf jumps (e .0 .0)) (f-is : f ≡ hitsOf falls (e .0 .1)) where
   pub pushed-dropped : (bitOr j f ≡ 0 → ⊥) → pushed jumps falls cost e r ≡ r
   pushed-dropped h = rw (ne-eqb (bitOr (hitsOf jumps (e .0 .0)) (hitsOf falls (e .0 .1))) 0
       (λ z. h (ap₂ bitOr j-is f-is ∙ z)))
 
-  pub pushed-kept : (oj of : ℕ) → oj ≡ openedOf jumps (e .0 .0) → of ≡ openedOf falls (e .0 .1) → bitOr j f ≡ 0
-      → pushed jumps falls cost e r ≡ inserted (entryOf oj of (cost + e .1 .0) (bitOr (e .1 .1 .0) (jumps .left))
-      (bitOr (e .1 .1 .1) (falls .left))) r
-  pushed-kept oj of p q h =
-      rw (eq-eqb (bitOr (hitsOf jumps (e .0 .0)) (hitsOf falls (e .0 .1))) 0 (sym (ap₂ bitOr j-is f-is) ∙ h), p, q)
+  pub pushed-kept : (oj of : ℕ) (v : Both) → oj ≡ openedOf jumps (e .0 .0) → of ≡ openedOf falls (e .0 .1)
+      → v ≡ stepBoth jumps falls cost (e .1) → bitOr j f ≡ 0 → pushed jumps falls cost e r ≡ inserted ((oj, of), v) r
+  pushed-kept oj of v p q s h =
+      rw (eq-eqb (bitOr (hitsOf jumps (e .0 .0)) (hitsOf falls (e .0 .1))) 0 (sym (ap₂ bitOr j-is f-is) ∙ h), p, q, s)

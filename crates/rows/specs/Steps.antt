@@ -1,6 +1,6 @@
 -- A step in front of a tail, on the words of a plan: it is the theory's backward machine (`step-key`), and what an
--- entry keeps of the longer tail is
--- the theory's (`step-words`). Rests on theory's Plan, Edges and Backward.
+-- entry keeps of the longer tail is the theory's (`step-words`). Rests on theory's Plan, Edges and Backward, and on
+-- entries' Entries.
 use mathlib.Core.Path.{_≡_, refl, sym, ap, ap₂, _∙_}
 use mathlib.Core.Bool.{Bool, true, false, not, cond, _||_, _&&_, and-true, and-false, and-assoc}
 use mathlib.Core.List.{List}
@@ -25,14 +25,15 @@ use Rattle.theory.specs.Edges.{has, edges-words, any-edge-words}
 use Rattle.theory.specs.Steps.{wipes}
 use Rattle.theory.specs.Listing.{listing}
 use Rattle.theory.specs.Ties.{mark}
-use Rattle.rows.specs.declared.Side.{Side}
+use Rattle.entries.specs.Entries.{Both}
+use Rattle.rows.specs.declared.Half.{Half}
 use Rattle.theory.specs.PlanWays.{by-jump, by-fall}
 use Rattle.theory.specs.Plan.{testAt, touchedAt, deniedAt, againstAt, listedAt, IsWay, Planned}
 
 -- ---- a step as words
 
-unfoldable pub sideOf : List ℕ → (b way side : ℕ) → Side
-sideOf plan b way side = record {
+unfoldable pub halfOf : List ℕ → (b way side : ℕ) → Half
+halfOf plan b way side = record {
   against = againstAt plan b way side;
   denied = deniedAt plan b side;
   own = cond (eqb way side) (testAt plan b * 2 ^ b % 2 ^ 64) 0;
@@ -40,20 +41,24 @@ sideOf plan b way side = record {
   left = cond (eqb way side) (1 * 2 ^ b % 2 ^ 64) 0;
 }
 
-abbrev pub hitsOf : Side → ℕ → ℕ
+abbrev pub hitsOf : Half → ℕ → ℕ
 hitsOf s edges = bitOr (bitAnd edges (s .against)) (bitAnd (bitOr edges (s .own)) (s .denied))
 
-abbrev pub openedOf : Side → ℕ → ℕ
+abbrev pub openedOf : Half → ℕ → ℕ
 openedOf s edges = bitAnd (bitOr edges (s .own)) (s .live)
 
 -- the key of the longer tail, or none where the step conflicts
-abbrev pub stepKey : (jumps falls : Side) → Key → Option Key
+abbrev pub stepKey : (jumps falls : Half) → Key → Option Key
 stepKey jumps falls k = cond (not (eqb (bitOr (hitsOf jumps (k .0)) (hitsOf falls (k .1))) 0)) none
     (some (openedOf jumps (k .0), openedOf falls (k .1)))
 
 -- what is kept of the longer tail
-abbrev pub stepWords : (jumps falls : Side) (cost : ℕ) → Words → Words
+abbrev pub stepWords : (jumps falls : Half) (cost : ℕ) → Words → Words
 stepWords jumps falls cost u = (cost + u .0, (bitOr (u .1 .0) (jumps .left), bitOr (u .1 .1) (falls .left)))
+
+-- of each choice
+abbrev pub stepBoth : (jumps falls : Half) (cost : ℕ) → Both → Both
+stepBoth jumps falls cost v = (stepWords jumps falls cost (v .0), stepWords jumps falls cost (v .1))
 
 -- ---- what its bits say
 
@@ -65,15 +70,15 @@ listed-only true t w h = rw (h refl) (sym (and-true (not w)))
 module _ (body : Body) (g : Sound body) (plan : List ℕ) (fits : (k : ℕ) → getD plan k 0 < 2 ^ 64)
     (cost : ℕ → ℕ → ℕ) (planned : Planned body cost plan) (b way side : ℕ) (inside : b < body .count) (v : IsWay way)
     (u : IsWay side) where
-  abbrev words : Side
-  words = sideOf plan b way side
+  abbrev words : Half
+  words = halfOf plan b way side
 
   pub against-bit : (k : ℕ) → k < body .count → bit (words .against) k ≡ opposes body (b, way) (k, side)
-  unfolding sideOf
+  unfolding halfOf
   against-bit k h = planned .against b way k side v u inside h
 
   pub denied-bit : (k : ℕ) → k < body .count → bit (words .denied) k ≡ denies body b (k, side)
-  unfolding sideOf
+  unfolding halfOf
   denied-bit k h = planned .denied b k side u inside h
 
   shifted : (t : Bool) → cond t 1 0 * 2 ^ b % 2 ^ 64 ≡ cond t (2 ^ b) 0
@@ -85,7 +90,7 @@ module _ (body : Body) (g : Sound body) (plan : List ℕ) (fits : (k : ℕ) → 
   one-bit false k = bit-none k
 
   pub own-bit : (k : ℕ) → bit (words .own) k ≡ (isTest body b && same (b, way) (k, side))
-  unfolding sideOf
+  unfolding halfOf
   own-bit k = rw (planned .tests b inside, shifted (isTest body b)) (by (eqb way side))
     where
       by : (c : Bool) → bit (cond c (cond (isTest body b) (2 ^ b) 0) 0) k ≡ (isTest body b && (eqb b k && c))
@@ -94,7 +99,7 @@ module _ (body : Body) (g : Sound body) (plan : List ℕ) (fits : (k : ℕ) → 
 
   pub live-bit : (k : ℕ) → k < body .count → bit (words .live) k ≡
       (not (touches body b (condition body (k, side) .variable)) && listed (conflicts body) b (k, side))
-  unfolding sideOf condition
+  unfolding halfOf condition
   live-bit k h =
       bit-and-not 64 (listedAt plan b side) (touchedAt plan b) k (fits _) (fits _)
       ∙ ap₂ (λ l t. l && not t) (planned .listed-are b k side u inside h) (planned .touched b k inside h)
@@ -102,7 +107,7 @@ module _ (body : Body) (g : Sound body) (plan : List ℕ) (fits : (k : ℕ) → 
       (listing body (g .onward) .tests b (k, side))
 
   pub left-is : words .left ≡ cond (eqb way side) (2 ^ b) 0
-  unfolding sideOf
+  unfolding halfOf
   left-is = ap (λ (n : ℕ). cond (eqb way side) n 0) (shl-one 64 b (omega (arith, g .few)))
 
   pub left-marks : (s : ℕ) → bitOr s (words .left) ≡ mark side (b, way) s
@@ -157,7 +162,7 @@ module _ (body : Body) (g : Sound body) (plan : List ℕ) (fits : (k : ℕ) → 
         (with-own-beyond k h)
 
     own-lt : words .own < 2 ^ 64
-    unfolding sideOf
+    unfolding halfOf
     own-lt = by (eqb way side)
       where
         by : (c : Bool) → cond c (testAt plan b * 2 ^ b % 2 ^ 64) 0 < 2 ^ 64
@@ -179,18 +184,18 @@ module _ (body : Body) (g : Sound body) (plan : List ℕ) (fits : (k : ℕ) → 
 
 module _ (body : Body) (g : Sound body) (plan : List ℕ) (fits : (k : ℕ) → getD plan k 0 < 2 ^ 64)
     (cost : ℕ → ℕ → ℕ) (planned : Planned body cost plan) (b way : ℕ) (inside : b < body .count) (v : IsWay way) where
-  abbrev jump-side : Side
-  jump-side = sideOf plan b way 1
+  abbrev jump-half : Half
+  jump-half = halfOf plan b way 1
 
-  abbrev fall-side : Side
-  fall-side = sideOf plan b way 2
+  abbrev fall-half : Half
+  fall-half = halfOf plan b way 2
 
-  pub step-key : (k : Key) → k .0 < 2 ^ body .count → k .1 < 2 ^ body .count → stepKey jump-side fall-side k
+  pub step-key : (k : Key) → k .0 < 2 ^ body .count → k .1 < 2 ^ body .count → stepKey jump-half fall-half k
       ≡ stepBack body (conflicts body) (b, way) k
   unfolding drops opened has
   step-key k j f = ap₂ (λ c o. cond c none (some o))
       (sym (any-edge-words (body .count) 64 (g .few) (λ e. has k e && opposes body (b, way) e || withOwn body
-      (b, way) k e && denies body b e) (hitsOf jump-side (k .0)) (hitsOf fall-side (k .1))
+      (b, way) k e && denies body b e) (hitsOf jump-half (k .0)) (hitsOf fall-half (k .1))
       (hits-lt body g plan fits cost planned b way 1 inside v by-jump (k .0) j)
       (hits-lt body g plan fits cost planned b way 2 inside v by-fall (k .1) f)
       (hits-bit body g plan fits cost planned b way 1 inside v by-jump (k .0) j)
@@ -198,7 +203,7 @@ module _ (body : Body) (g : Sound body) (plan : List ℕ) (fits : (k : ℕ) → 
       (hits-beyond body g plan fits cost planned b way 1 inside v by-jump (k .0) j)
       (hits-beyond body g plan fits cost planned b way 2 inside v by-fall (k .1) f)))
       (edges-words (body .count) 64 (g .few) (λ e. withOwn body (b, way) k e && not (wipes body b e) && listed
-      (conflicts body) b e) (openedOf jump-side (k .0)) (openedOf fall-side (k .1))
+      (conflicts body) b e) (openedOf jump-half (k .0)) (openedOf fall-half (k .1))
       (opened-lt body g plan fits cost planned b way 1 inside v by-jump (k .0) j)
       (opened-lt body g plan fits cost planned b way 2 inside v by-fall (k .1) f)
       (opened-bit body g plan fits cost planned b way 1 inside v by-jump (k .0) j)
@@ -206,7 +211,7 @@ module _ (body : Body) (g : Sound body) (plan : List ℕ) (fits : (k : ℕ) → 
       (opened-beyond body g plan fits cost planned b way 1 inside v by-jump (k .0) j)
       (opened-beyond body g plan fits cost planned b way 2 inside v by-fall (k .1) f))
 
-  pub step-words : (w : ℕ) → w ≡ cost b way → (u : Words) → stepWords jump-side fall-side w u ≡ growWords cost
+  pub step-words : (w : ℕ) → w ≡ cost b way → (u : Words) → stepWords jump-half fall-half w u ≡ growWords cost
       (b, way) u
   step-words w e u = λ i. (
     e i + u .0,

@@ -5,17 +5,17 @@ ghost use mathlib.Core.Bool.{cond};
 ghost use Prim.Native.Nat.{_+_, _^_, _<_, _≤_};
 ghost use lib.ListN.{length};
 ghost use Rattle.entries.specs.Entries.{entriesFrom, Grown};
-ghost use Rattle.entries.specs.Structs.{tupleOf, structAt};
-ghost use Rattle.rows.specs.Steps.{sideOf, hitsOf, openedOf};
+ghost use Rattle.entries.specs.Structs.{wordsIn, tupleOf, structAt};
+ghost use Rattle.rows.specs.Steps.{halfOf, hitsOf, openedOf, stepWords};
 ghost use Rattle.rows.specs.Rows.{pushed, sourceOf, manyOf, tailsBy, Ready, leftFrom};
 ghost use Rattle.rows.specs.Begun.{zeroRow, Holds, begunWith};
 use entries::Entry;
 use entries::Way;
 
-// One side of a step in front of tails, which leaves a block by a way: of the jump edges, or of the fall edges, those
+// One half of a step in front of tails, which leaves a block by a way: of the jump edges, or of the fall edges, those
 // that it conflicts with, those that the block's effects deny, its own where the block tests, those that stay open; and
-// its block, where it is left by this side's way.
-struct Side {
+// its block, where it is left by this half's way.
+struct Half {
     against: u64,
     denied: u64,
     own: u64,
@@ -30,17 +30,17 @@ fn when(test: bool, x: u64) -> u64
     if test { x } else { 0 }
 }
 
-// A side (1 jump, 2 fall) of the step that leaves block b by the way.
-fn side_of(plan: &[u64], b: usize, way: usize, side: usize) -> Side
+// A half (1 jump, 2 fall) of the step that leaves block b by the way.
+fn half_of(plan: &[u64], b: usize, way: usize, side: usize) -> Half
     requires { ⌜ (length (now plan) ≡ 1024) × ((b < 64) × ((way < 3) × (side < 3))) ⌝ }
-    ensures { λ r. ⌜ r ≡ sideOf (now (plan .entry)) b way side ⌝ }
+    ensures { λ r. ⌜ r ≡ halfOf (now (plan .entry)) b way side ⌝ }
 {
     let against = plan_words::against(plan, b, way, side);
     let denied = plan_words::denied(plan, b, side);
     let test = plan_words::test(plan, b);
     let listed = plan_words::listed(plan, b, side);
     let touched = plan_words::touched(plan, b);
-    Side {
+    Half {
         against,
         denied,
         own: when(way == side, test << b),
@@ -50,41 +50,50 @@ fn side_of(plan: &[u64], b: usize, way: usize, side: usize) -> Side
 }
 
 // The edges of a tail, and the step's own, that the step conflicts with.
-fn hits(side: Side, edges: u64) -> u64
-    ensures { λ r. ⌜ r ≡ hitsOf side edges ⌝ }
+fn hits(half: Half, edges: u64) -> u64
+    ensures { λ r. ⌜ r ≡ hitsOf half edges ⌝ }
 {
-    (edges & side.against) | ((edges | side.own) & side.denied)
+    (edges & half.against) | ((edges | half.own) & half.denied)
 }
 
 // The edges that are open with the step in front.
-fn opened(side: Side, edges: u64) -> u64
-    ensures { λ r. ⌜ r ≡ openedOf side edges ⌝ }
+fn opened(half: Half, edges: u64) -> u64
+    ensures { λ r. ⌜ r ≡ openedOf half edges ⌝ }
 {
-    (edges | side.own) & side.live
+    (edges | half.own) & half.live
 }
 
-// A tail with the step in front into the row, where the step does not conflict; how many are held then.
-fn add_tail(jumps: Side, falls: Side, cost: u64, tail: Entry, row: &mut [u64], held: usize) -> usize
-    requires { ⌜ (length (now row) ≡ 320) × (held ≤ 64) ⌝ }
-    requires { ⌜ cost + tail .way .weight < 2 ^ 64 ⌝ }
+// A way with the step in front.
+fn longer(jumps: Half, falls: Half, cost: u64, way: Way) -> Way
+    requires { ⌜ cost + way .weight < 2 ^ 64 ⌝ }
+    ensures { λ r. ⌜ wordsIn r ≡ stepWords jumps falls cost (wordsIn way) ⌝ }
+{
+    Way {
+        weight: cost + way.weight,
+        jumped: way.jumped | jumps.left,
+        fallen: way.fallen | falls.left,
+    }
+}
+
+// A tail of each choice with the step in front into the row, where the step does not conflict; how many are held then.
+fn add_tail(jumps: Half, falls: Half, cost: u64, tail: Entry, row: &mut [u64], held: usize) -> usize
+    requires { ⌜ (length (now row) ≡ 512) × (held ≤ 64) ⌝ }
+    requires { ⌜ (cost + tail .heaviest .weight < 2 ^ 64) × (cost + tail .lightest .weight < 2 ^ 64) ⌝ }
     ensures { λ r. ⌜ Grown (pushed jumps falls cost (tupleOf tail) (entriesFrom (now (row .entry)) 0 held))
         (now (row .entry)) (now (row .exit)) r ⌝ }
 {
     if hits(jumps, tail.jumps) | hits(falls, tail.falls) != 0 {
         return held;
     }
-    let old = tail.way;
-    let way = Way {
-        weight: cost + old.weight,
-        jumped: old.jumped | jumps.left,
-        fallen: old.fallen | falls.left,
-    };
-    let longer = Entry {
+    let heaviest = longer(jumps, falls, cost, tail.heaviest);
+    let lightest = longer(jumps, falls, cost, tail.lightest);
+    let e = Entry {
         jumps: opened(jumps, tail.jumps),
         falls: opened(falls, tail.falls),
-        way,
+        heaviest,
+        lightest,
     };
-    entries::insert(row, held, longer)
+    entries::insert(row, held, e)
 }
 
 // How many tails a block has to choose from, by jump or go and by fall.
@@ -102,7 +111,7 @@ fn many_of(tails: Tails, way: usize) -> usize
 
 // Tail i by the way: of the row of the target by jump or go, or of that by fall.
 fn tail_of(first: &[u64], second: &[u64], way: usize, i: usize) -> Entry
-    requires { ⌜ (length (now first) ≡ 320) × ((length (now second) ≡ 320) × (i < 64)) ⌝ }
+    requires { ⌜ (length (now first) ≡ 512) × ((length (now second) ≡ 512) × (i < 64)) ⌝ }
     ensures { λ r. ⌜ r ≡ structAt (sourceOf (now (first .entry)) (now (second .entry)) way) i ⌝ }
 {
     if way == 1 {
@@ -123,7 +132,7 @@ pub fn build(
     begun: usize,
 ) -> usize
     requires { ⌜ Ready (now plan) b tails (now first) (now second) ⌝ }
-    requires { ⌜ (length (now row) ≡ 320) × (begun ≤ 64) ⌝ }
+    requires { ⌜ (length (now row) ≡ 512) × (begun ≤ 64) ⌝ }
     ensures { λ r. ⌜ Grown
         (leftFrom (now (plan .entry)) b (tailsBy tails (now (first .entry)) (now (second .entry))) 1
         (entriesFrom (now (row .entry)) 0 begun)) (now (row .entry)) (now (row .exit)) r ⌝ }
@@ -131,8 +140,8 @@ pub fn build(
     let mut held = begun;
     let mut way = 1;
     'ways: while way < 3 {
-        let jumps = side_of(plan, b, way, 1);
-        let falls = side_of(plan, b, way, 2);
+        let jumps = half_of(plan, b, way, 1);
+        let falls = half_of(plan, b, way, 2);
         let cost = plan_words::cost(plan, b, way);
         let many = many_of(tails, way);
         let mut i = 0;
@@ -164,7 +173,8 @@ pub fn begin(plan: &[u64], b: usize, count: usize, row: &mut [u64]) -> usize
         let own = Entry {
             jumps: 0,
             falls: 0,
-            way,
+            heaviest: way,
+            lightest: way,
         };
         entries::put_entry(row, 0, own);
         return 1;

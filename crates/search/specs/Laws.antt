@@ -8,21 +8,21 @@ use mathlib.Core.Option.{Option, none, some}
 use Prim.Native.Nat.{ℕ, suc, _+_, _-_, _*_, _^_, _<_, _≤_}
 use native.Mathlib.Numerals.{add-one}
 use native.Mathlib.Omega.{arith}
-use borrow.Author.Tests.{eq-eqb, eqb-true, le-ltb, ltb-true, ltb-false, lt-ltb}
+use borrow.Author.Tests.{eq-eqb, ne-eqb, ltb-true, ltb-false, lt-ltb}
 use lib.Bits.{bitOr, or-lt}
 use lib.Pow.{pow-lt}
 use lib.Dec.{eqb, ltb}
 use lib.ListN.{getD}
-use Rattle.laws.specs.Terms.{Mem, bit, heavier}
+use Rattle.laws.specs.Terms.{Mem, Choice, heaviest, lightest, preferred, bit}
 use Rattle.laws.specs.Tests.{split, clash, is-false, and-out, or-out, or-none, not-out}
 use Rattle.laws.specs.Sets.{ext, bit-with}
-use Rattle.laws.specs.Orders.{Choice}
+use Rattle.laws.specs.Orders.{preference}
 use Rattle.form.specs.declared.Body.{Body}
 use Rattle.form.specs.Conflict.{exits, isTest, condition, touches, opposes, denies, Sound}
 use Rattle.lower_laws.specs.Joined.{denies-test, opposes-test}
 use Rattle.theory.specs.Row.{Key}
 use Rattle.theory.specs.Edges.{has, has-none, edges-words, noEdges}
-use Rattle.theory.specs.Walk.{keepFirst, andThen, ifStep, branch, walk-eq, tally, tallyBy}
+use Rattle.theory.specs.Walk.{within, keepFirst, andThen, ifStep, branch, walk-eq, tallyBy}
 use Rattle.theory.specs.Forward.{onMachine, entered, banned, stepOn}
 use Rattle.theory.specs.Ties.{mark}
 use Rattle.theory.specs.SweepWords.{Words}
@@ -31,8 +31,8 @@ use Rattle.theory.specs.Main.{walk-answer}
 use Rattle.theory.specs.Range.{upTo, up-next, up-on}
 use Rattle.theory.specs.PlanWays.{by-way, by-jump, by-fall}
 use Rattle.theory.specs.Plan.{targetAt, costAt, IsWay, Planned, PlanOf}
-use Rattle.search.specs.Terms.{Found, routeIn, soFar, tallied, Standing, Barred, Entered, Barring, walkFrom}
-use Rattle.search.specs.Terms.{Walks, isOpen, Took, Searched}
+use Rattle.search.specs.Terms.{placeOf, wayKept, keptIn, Found, eightFrom, soFar, tallied, Standing}
+use Rattle.search.specs.Terms.{Barred, Entered, Barring, counting, walkFrom, Walks, isOpen, Took, Searched}
 use Rattle.search.specs.Terms.Took.{stays, goes}
 
 -- ---- the two ways, and the two sides of a set of edges
@@ -136,37 +136,40 @@ module _ {body : Body} {cost : ℕ → ℕ → ℕ} {plan : List ℕ} (p : Plann
 
 -- ---- one more beginning
 
-module _ (prefers : ℕ → ℕ → Bool) where
+module _ (choice : Choice) where
   -- the tests: the budget is passed, the block is the last
   counts : (over last : Bool) (walked : ℕ) (kept : Option Words) (v : Words)
-      → cond over none (some (suc walked, cond last (keepFirst prefers kept v) kept)) ≡ tallyBy prefers over last
-      (walked, kept) v
+      → cond over none (some (suc walked, cond last (keepFirst (preferred choice) kept v) kept))
+      ≡ tallyBy (preferred choice) over last (walked, kept) v
   counts true last walked kept v = refl
   counts false true walked kept v = refl
   counts false false walked kept v = refl
 
   pub visit-is : (cost : ℕ → ℕ → ℕ) (count budget b : ℕ) (c : Words) (found r : Found) (last : Bool)
       → eqb (suc b) count ≡ last → r .0 ≡ found .0 + 1
-      → routeIn (r .1) ≡ cond last (keepFirst prefers (routeIn (found .1)) (finish cost (b, c))) (routeIn (found .1))
-      → tallied budget r ≡ tally prefers (finish cost) count budget (soFar found) (b, c)
+      → let kept = keptIn choice (found .1) in
+      keptIn choice (r .1) ≡ cond last (keepFirst (preferred choice) kept (finish cost (b, c))) kept
+      → tallied choice budget r ≡ counting choice cost count budget (soFar choice found) (b, c)
   visit-is cost count budget b c found r last l w k =
       (λ i. cond (ltb budget ((w ∙ add-one (found .0)) i)) none (some ((w ∙ add-one (found .0)) i, k i)))
-      ∙ counts (ltb budget (suc (found .0))) last (found .0) (routeIn (found .1)) (finish cost (b, c))
-      ∙ ap (λ d. tallyBy prefers (ltb budget (suc (found .0))) d (soFar found) (finish cost (b, c))) (sym l)
+      ∙ counts (ltb budget (suc (found .0))) last (found .0) (keptIn choice (found .1)) (finish cost (b, c))
+      ∙ ap (λ d. tallyBy (preferred choice) (ltb budget (suc (found .0))) d (soFar choice found) (finish cost (b, c)))
+      (sym l)
 
--- ---- the words of the route kept
+-- ---- of the route kept, or none, and a new one
 
-module _ (best : List ℕ) (v : Words) where
-  -- kept where the new one is no heavier
-  pub kept-old : getD best 0 0 ≡ 1 → v .0 ≤ getD best 1 0 → routeIn best ≡ keepFirst heavier (routeIn best) v
-  kept-old e h = rw (eq-eqb (getD best 0 0) 1 e, le-ltb (getD best 1 0) (v .0) h)
+module _ (choice : Choice) (any : ℕ) (held v : Words) where
+  abbrev Keeps : Words → Type 0
+  Keeps r = some r ≡ keepFirst (preferred choice) (cond (eqb any 1) (some held) none) v
 
-  pub kept-new : (getD best 0 0 ≡ 1 → getD best 1 0 < v .0) → some v ≡ keepFirst heavier (routeIn best) v
-  kept-new h = by (eqb (getD best 0 0) 1) refl
-    where
-      by : (any : Bool) → eqb (getD best 0 0) 1 ≡ any → some v ≡ keepFirst heavier (routeIn best) v
-      by true e = rw (e, lt-ltb (getD best 1 0) (v .0) (h (eqb-true (getD best 0 0) 1 e)))
-      by false e = rw e
+  pub keeps-old : {better : Bool} → any ≡ 1 → better ≡ preferred choice (v .0) (held .0) → better ≡ false → Keeps held
+  keeps-old e is worse = rw (eq-eqb any 1 e, sym is ∙ worse)
+
+  pub keeps-new : {better : Bool} → any ≡ 1 → better ≡ preferred choice (v .0) (held .0) → better ≡ true → Keeps v
+  keeps-new e is better = rw (eq-eqb any 1 e, sym is ∙ better)
+
+  pub keeps-first : (any ≡ 1 → ⊥) → Keeps v
+  keeps-first d = rw (ne-eqb any 1 d)
 
 -- ---- the turn
 
@@ -179,14 +182,14 @@ module _ {A : Type 0} where
   then-assoc none f g = refl
   then-assoc (some a) f g = refl
 
-module _ (prefers : ℕ → ℕ → Bool) (body : Body) (cost : ℕ → ℕ → ℕ) (budget b : ℕ) (s : Key) (c : Words) where
+module _ (choice : Choice) (body : Body) (cost : ℕ → ℕ → ℕ) (budget b : ℕ) (s : Key) (c : Words) where
   abbrev counted : ℕ × Option Words → ℕ × Words → Option (ℕ × Option Words)
-  counted = tally prefers (finish cost) (body .count) budget
+  counted = counting choice cost (body .count) budget
 
   -- by an exit of block b
   abbrev taken : (way target : ℕ) → ℕ × Option Words → Option (ℕ × Option Words)
   taken way target a = ifStep (onMachine body cost) (advance cost) counted (stepOn body (b, way) s)
-      (λ u. walkFrom prefers body cost budget target u (advance cost (b, way) c)) a
+      (λ u. walkFrom choice body cost budget target u (advance cost (b, way) c)) a
 
   -- by a way of block b, where it has one
   abbrev pub byWay : (way target : ℕ) → ℕ × Option Words → Option (ℕ × Option Words)
@@ -194,7 +197,7 @@ module _ (prefers : ℕ → ℕ → Bool) (body : Body) (cost : ℕ → ℕ → 
 
   abbrev branches : List (ℕ × ℕ) → ℕ × Option Words → Option (ℕ × Option Words)
   branches os a = branch (onMachine body cost) (advance cost) counted
-      (λ t u e. walkFrom prefers body cost budget t u e) b s c os a
+      (λ t u e. walkFrom choice body cost budget t u e) b s c os a
 
   two-ways : (w v : Bool) (t u : ℕ) (a : ℕ × Option Words)
       → branches (cond w ((1, t) ∷ []) [] ++ cond v ((2, u) ∷ []) []) a ≡ andThen (cond w (taken 1 t a) (some a))
@@ -205,7 +208,7 @@ module _ (prefers : ℕ → ℕ → Bool) (body : Body) (cost : ℕ → ℕ → 
   two-ways false false t u a = refl
 
   turn : Sound body → (plan : List ℕ) → Planned body cost plan → b < body .count → (a : ℕ × Option Words)
-      → walkFrom prefers body cost budget b s c a ≡ andThen (counted a (b, c))
+      → walkFrom choice body cost budget b s c a ≡ andThen (counted a (b, c))
       (λ d. andThen (byWay 1 (targetAt plan b 1) d) (byWay 2 (targetAt plan b 2)))
   turn g plan p h a =
       walk-eq (onMachine body cost) (record { on = g .onward .above; inside = g .onward .inside })
@@ -219,61 +222,61 @@ module _ (prefers : ℕ → ℕ → Bool) (body : Body) (cost : ℕ → ℕ → 
       → ltb target 64 ≡ is → entered body b s (b, way) ≡ shut
       → (((is && not shut) && not over) ≡ false → next ≡ first)
       → (((is && not shut) && not over) ≡ true
-      → tallied budget next ≡ walkFrom prefers body cost budget target (banned body (b, way) s)
-      (advance cost (b, way) c) (soFar first))
-      → tallied budget next ≡ andThen (tallied budget first) (byWay way target)
-  way-is way target first next true is shut p q r same more = ap (tallied budget) (same (and-false (is && not shut)))
-      ∙ rw p
-  way-is way target first next false false shut p q r same more = ap (tallied budget) (same refl) ∙ rw (p, q)
-  way-is way target first next false true true p q r same more = ap (tallied budget) (same refl) ∙ rw (p, q, r)
+      → tallied choice budget next ≡ walkFrom choice body cost budget target (banned body (b, way) s)
+      (advance cost (b, way) c) (soFar choice first))
+      → tallied choice budget next ≡ andThen (tallied choice budget first) (byWay way target)
+  way-is way target first next true is shut p q r same more =
+      ap (tallied choice budget) (same (and-false (is && not shut))) ∙ rw p
+  way-is way target first next false false shut p q r same more = ap (tallied choice budget) (same refl) ∙ rw (p, q)
+  way-is way target first next false true true p q r same more = ap (tallied choice budget) (same refl) ∙ rw (p, q, r)
   way-is way target first next false true false p q r same more = more refl ∙ rw (p, q, r)
 
 -- ---- what the recursion owes, from its two ways
 
-module _ (prefers : ℕ → ℕ → Bool) {body : Body} {cost : ℕ → ℕ → ℕ} {plan : List ℕ} (p : Planned body cost plan)
+module _ (choice : Choice) {body : Body} {cost : ℕ → ℕ → ℕ} {plan : List ℕ} (p : Planned body cost plan)
     (g : Sound body) (budget b : ℕ) (h : b < body .count) (s here : Key) (c : Words)
     (bars : Barred body s) (e : Entered plan b s here) where
   abbrev by : ℕ → ℕ × Option Words → Option (ℕ × Option Words)
-  by way = byWay prefers body cost budget b s c way (targetAt plan b way)
+  by way = byWay choice body cost budget b s c way (targetAt plan b way)
 
-  one-way : (way : ℕ) (w : IsWay way) (found r : Found) → Took prefers plan (body .count) budget b way here c found r
-      → tallied budget r ≡ andThen (tallied budget found) (by way)
+  one-way : (way : ℕ) (w : IsWay way) (found r : Found) → Took choice plan (body .count) budget b way here c found r
+      → tallied choice budget r ≡ andThen (tallied choice budget found) (by way)
   one-way way w found r (stays o same) =
-      way-is prefers body cost budget b s c way (targetAt plan b way) found r _ _ _ refl refl
+      way-is choice body cost budget b s c way (targetAt plan b way) found r _ _ _ refl refl
       (sym (entered-here p b h s here bars e b way w h)) (λ _. same) (λ t. clash t o)
   one-way way w found r (goes o next l on carried walks) =
-      way-is prefers body cost budget b s c way (targetAt plan b way) found r _ _ _ refl refl
+      way-is choice body cost budget b s c way (targetAt plan b way) found r _ _ _ refl refl
       (sym (entered-here p b h s here bars e b way w h)) (λ f. clash o f)
       (λ _. walks body cost p g refl (next-bars p b h s here bars e g way w next l)
-      ∙ λ i. walkFrom prefers body cost budget (targetAt plan b way) (next-banned p b h s here bars e g way w next l i)
-      (next-carried p b h s here bars e g way w next l c on carried i) (soFar found))
+      ∙ λ i. walkFrom choice body cost budget (targetAt plan b way) (next-banned p b h s here bars e g way w next l i)
+      (next-carried p b h s here bars e g way w next l c on carried i) (soFar choice found))
 
   all-ways : (found first second r : Found)
-      → tallied budget first ≡ tally prefers (finish (costAt plan)) (body .count) budget (soFar found) (b, c)
-      → Took prefers plan (body .count) budget b 1 here c first second
-      → Took prefers plan (body .count) budget b 2 here c second r
-      → tallied budget r ≡ walkFrom prefers body cost budget b s c (soFar found)
+      → tallied choice budget first ≡ counting choice (costAt plan) (body .count) budget (soFar choice found) (b, c)
+      → Took choice plan (body .count) budget b 1 here c first second
+      → Took choice plan (body .count) budget b 2 here c second r
+      → tallied choice budget r ≡ walkFrom choice body cost budget b s c (soFar choice found)
   all-ways found first second r v j f =
       one-way 2 by-fall second r f
       ∙ ap (λ o. andThen o (by 2)) (one-way 1 by-jump first second j)
-      ∙ then-assoc (tallied budget first) (by 1) (by 2)
+      ∙ then-assoc (tallied choice budget first) (by 1) (by 2)
       ∙ ap (λ o. andThen o (λ d. andThen (by 1 d) (by 2))) (v ∙ same)
-      ∙ sym (turn prefers body cost budget b s c g plan p h (soFar found))
+      ∙ sym (turn choice body cost budget b s c g plan p h (soFar choice found))
     where
-      same : tally prefers (finish (costAt plan)) (body .count) budget (soFar found) (b, c)
-          ≡ tally prefers (finish cost) (body .count) budget (soFar found) (b, c)
-      same = λ i. tallyBy prefers (ltb budget (suc (found .0))) (eqb (suc b) (body .count)) (soFar found)
-          (c .0 + p .costs b 0 h i, c .1)
+      same : counting choice (costAt plan) (body .count) budget (soFar choice found) (b, c)
+          ≡ counting choice cost (body .count) budget (soFar choice found) (b, c)
+      same = λ i. tallyBy (preferred choice) (ltb budget (suc (found .0))) (eqb (suc b) (body .count))
+          (soFar choice found) (c .0 + p .costs b 0 h i, c .1)
 
-module _ (prefers : ℕ → ℕ → Bool) {plan : List ℕ} {count budget b : ℕ} where
+module _ (choice : Choice) {plan : List ℕ} {count budget b : ℕ} where
   pub walks : b < count → (s here : Key) (c : Words) → Entered plan b s here → (found first second r : Found)
-      → tallied budget first ≡ tally prefers (finish (costAt plan)) count budget (soFar found) (b, c)
-      → Took prefers plan count budget b 1 here c first second → Took prefers plan count budget b 2 here c second r
-      → Walks prefers plan count budget b s c found r
+      → tallied choice budget first ≡ counting choice (costAt plan) count budget (soFar choice found) (b, c)
+      → Took choice plan count budget b 1 here c first second → Took choice plan count budget b 2 here c second r
+      → Walks choice plan count budget b s c found r
   walks h s here c e found first second r v j f body cost p g size bars =
-      all-ways prefers p g budget b (rw size h) s here c bars e found first second r (rw size v)
-      (subst (λ n. Took prefers plan n budget b 1 here c first second) (sym size) j)
-      (subst (λ n. Took prefers plan n budget b 2 here c second r) (sym size) f)
+      all-ways choice p g budget b (rw size h) s here c bars e found first second r (rw size v)
+      (subst (λ n. Took choice plan n budget b 1 here c first second) (sym size) j)
+      (subst (λ n. Took choice plan n budget b 2 here c second r) (sym size) f)
 
 -- what a way comes to, from the test of the code and its call
 pub open-is : (plan : List ℕ) (b way : ℕ) (here : Key) (walked budget : ℕ) {target : ℕ} {banned o : Bool}
@@ -281,16 +284,16 @@ pub open-is : (plan : List ℕ) (b way : ℕ) (here : Key) (walked budget : ℕ)
     → o ≡ isOpen target banned walked budget → isOpen (targetAt plan b way) (has here (b, way)) walked budget ≡ o
 open-is plan b way here walked budget is edge test = (λ i. isOpen (sym is i) (edge i) walked budget) ∙ sym test
 
-pub took-goes : {prefers : ℕ → ℕ → Bool} {plan : List ℕ} {count budget b way : ℕ} {here next : Key} {c on : Words}
+pub took-goes : {choice : Choice} {plan : List ℕ} {count budget b way : ℕ} {here next : Key} {c on : Words}
     {found s r : Found} {target : ℕ}
     → isOpen (targetAt plan b way) (has here (b, way)) (found .0) budget ≡ true → target ≡ targetAt plan b way
     → Barring plan b way here next → on ≡ advance (costAt plan) (b, way) c
-    → Walks prefers plan count budget target next on found s → r ≡ s
-    → Took prefers plan count budget b way here c found r
-took-goes {prefers = prefers} {plan = plan} {count = count} {budget = budget} {b = b} {way = way} {here = here}
+    → Walks choice plan count budget target next on found s → r ≡ s
+    → Took choice plan count budget b way here c found r
+took-goes {choice = choice} {plan = plan} {count = count} {budget = budget} {b = b} {way = way} {here = here}
     {next = next} {c = c} {on = on} {found = found} {s = s} o is l carried walked same =
-    subst (λ f. Took prefers plan count budget b way here c found f) (sym same)
-    (goes o next l on carried (subst (λ n. Walks prefers plan count budget n next on found s) is walked))
+    subst (λ f. Took choice plan count budget b way here c found f) (sym same)
+    (goes o next l on carried (subst (λ n. Walks choice plan count budget n next on found s) is walked))
 
 -- the edges that a side's word has
 pub jump-edge : (s : Key) (k : ℕ) → has s (k, 1) ≡ bit (s .0) k
@@ -344,8 +347,8 @@ module _ {plan : List ℕ} {count budget b weight before : ℕ} (s : Standing pl
       )
 
   -- the last block has no way on
-  pub took-none : {prefers : ℕ → ℕ → Bool} (way : ℕ) → IsWay way → (here : Key) (c : Words) (found : Found)
-      → b + 1 ≡ count → Took prefers plan count budget b way here c found found
+  pub took-none : {choice : Choice} (way : ℕ) → IsWay way → (here : Key) (c : Words) (found : Found)
+      → b + 1 ≡ count → Took choice plan count budget b way here c found found
   took-none way w here c found last =
       stays (is-false (isOpen (targetAt plan b way) (has here (b, way)) (found .0) budget)
       (λ o. let (above, inside, left) = open-leads way w (has here (b, way)) (found .0) o in omega arith)) refl
@@ -362,10 +365,27 @@ standing-first plan count budget of fits = record {
   fits = fits;
 }
 
-pub searched : (prefers : ℕ → ℕ → Bool) → Choice prefers → (plan : List ℕ) (count budget : ℕ) (r : Found)
-    → Walks prefers plan count budget 0 noEdges nothing (0, 0 ∷ 0 ∷ 0 ∷ 0 ∷ []) r → Searched prefers plan count budget r
-searched prefers ch plan count budget r w body cost p g size =
-    w body cost p g size free ∙ walk-answer body g cost prefers ch budget
+-- no route is kept before the first
+abbrev pub nothingKept : List ℕ
+nothingKept = 0 ∷ 0 ∷ 0 ∷ 0 ∷ 0 ∷ 0 ∷ 0 ∷ 0 ∷ []
+
+none-kept : (choice : Choice) → keptIn choice nothingKept ≡ none
+none-kept false = refl
+none-kept true = refl
+
+-- in the eight words one by one
+same-kept : (choice : Choice) (best : List ℕ) → keptIn choice (eightFrom 0 best) ≡ keptIn choice best
+same-kept false best = refl
+same-kept true best = refl
+
+pub searched : (choice : Choice) (plan : List ℕ) (count budget walked : ℕ) (best : List ℕ)
+    → Walks choice plan count budget 0 noEdges nothing (0, nothingKept) (walked, best)
+    → Searched choice plan count budget (walked, eightFrom 0 best)
+searched choice plan count budget walked best w body cost p g size =
+    ap (within budget walked) (same-kept choice best)
+    ∙ w body cost p g size free
+    ∙ ap (λ (o : Option Words). walkFrom choice body cost budget 0 noEdges nothing (0, o)) (none-kept choice)
+    ∙ walk-answer body g cost (preferred choice) (preference choice) budget
   where
     free : Barred body noEdges
     free = record { tests = λ k side v l t. clash t (has-none (k, side)); within = λ k side v l. has-none (k, side) }

@@ -4,10 +4,10 @@ use mathlib.Core.Path.{_≡_}
 use mathlib.Core.Bool.{Bool, true, false, not, cond, _||_, _&&_}
 use mathlib.Core.List.{List, [], _∷_}
 use mathlib.Core.Option.{Option, none, some}
-use Prim.Native.Nat.{ℕ, _^_, _<_, _≤_}
+use Prim.Native.Nat.{ℕ, _+_, _^_, _<_, _≤_}
 use lib.Dec.{eqb, ltb}
 use lib.ListN.{getD}
-use Rattle.laws.specs.Terms.{bit}
+use Rattle.laws.specs.Terms.{Choice, bit, preferred}
 use Rattle.form.specs.declared.Body.{Body}
 use Rattle.form.specs.Conflict.{isTest, Sound}
 use Rattle.theory.specs.Route.{bestRoute, walked}
@@ -28,24 +28,32 @@ bannedAt at = (at .jumps, at .falls)
 
 -- ---- what is found so far
 
--- the route kept, in four words: 1 where there is one, and the way
-abbrev pub routeIn : List ℕ → Option Words
-routeIn best = cond (eqb (getD best 0 0) 1) (some (getD best 1 0, (getD best 2 0, getD best 3 0))) none
+-- where the four words of the choice begin: 1 where a route is kept, and its way
+abbrev pub placeOf : Choice → ℕ
+placeOf false = 0
+placeOf true = 4
 
--- the number of beginnings, and the route kept
+abbrev pub wayKept : Choice → List ℕ → Words
+wayKept choice best =
+    (getD best (placeOf choice + 1) 0, (getD best (placeOf choice + 2) 0, getD best (placeOf choice + 3) 0))
+
+-- the route kept by the choice
+abbrev pub keptIn : Choice → List ℕ → Option Words
+keptIn choice best = cond (eqb (getD best (placeOf choice) 0) 1) (some (wayKept choice best)) none
+
+-- the number of beginnings, and the words of both routes kept
 abbrev pub Found : Type 0
 Found = ℕ × List ℕ
 
-abbrev pub soFar : Found → ℕ × Option Words
-soFar found = (found .0, routeIn (found .1))
+-- eight words from a place on
+abbrev pub eightFrom : ℕ → List ℕ → List ℕ
+eightFrom at words =
+    getD words at 0 ∷ getD words (at + 1) 0 ∷ getD words (at + 2) 0 ∷ getD words (at + 3) 0 ∷ getD words (at + 4) 0
+    ∷ getD words (at + 5) 0 ∷ getD words (at + 6) 0 ∷ getD words (at + 7) 0 ∷ []
 
--- over the budget, or the count and the route kept
-abbrev pub tallied : (budget : ℕ) → Found → Option (ℕ × Option Words)
-tallied budget found = within budget (found .0) (routeIn (found .1))
-
--- both in five words
+-- all in nine words
 abbrev pub foundIn : List ℕ → Found
-foundIn words = (getD words 0 0, getD words 1 0 ∷ getD words 2 0 ∷ getD words 3 0 ∷ getD words 4 0 ∷ [])
+foundIn words = (getD words 0 0, eightFrom 1 words)
 
 -- ---- a turn
 
@@ -77,12 +85,24 @@ pub record Barring (plan : List ℕ) (b way : ℕ) (s r : Key) : Type 0 where
 abbrev pub isOpen : (target : ℕ) → (banned : Bool) → (walked budget : ℕ) → Bool
 isOpen target banned walked budget = (ltb target 64 && not banned) && not (ltb budget walked)
 
-module _ (prefers : ℕ → ℕ → Bool) where
+module _ (choice : Choice) where
+  abbrev pub soFar : Found → ℕ × Option Words
+  soFar found = (found .0, keptIn choice (found .1))
+
+  -- over the budget, or the count and the route kept
+  abbrev pub tallied : (budget : ℕ) → Found → Option (ℕ × Option Words)
+  tallied budget found = within budget (found .0) (keptIn choice (found .1))
+
+  -- one beginning more
+  abbrev pub counting : (cost : ℕ → ℕ → ℕ) → (count budget : ℕ) → ℕ × Option Words → ℕ × Words
+      → Option (ℕ × Option Words)
+  counting cost count budget = tally (preferred choice) (finish cost) count budget
+
   -- the theory's walk from block b
   abbrev pub walkFrom : Body → (cost : ℕ → ℕ → ℕ) → (budget b : ℕ) → Key → Words → ℕ × Option Words
       → Option (ℕ × Option Words)
   walkFrom body cost budget b s c a = walk (onMachine body cost) (advance cost)
-      (tally prefers (finish cost) (body .count) budget) (body .count) b s c a
+      (counting cost (body .count) budget) (body .count) b s c a
 
   -- what the recursion owes at block b: of whatever body and costs the plan is, the theory's walk
   abbrev pub Walks : List ℕ → (count budget b : ℕ) → Key → Words → (found r : Found) → Type 0
@@ -103,4 +123,4 @@ module _ (prefers : ℕ → ℕ → Bool) where
   abbrev pub Searched : List ℕ → (count budget : ℕ) → Found → Type 0
   Searched plan count budget r =
       (body : Body) (cost : ℕ → ℕ → ℕ) → Planned body cost plan → Sound body → body .count ≡ count
-      → tallied budget r ≡ within budget (walked body) (wordsFound body (bestRoute body cost prefers))
+      → tallied budget r ≡ within budget (walked body) (wordsFound body (bestRoute body cost (preferred choice)))

@@ -1,16 +1,19 @@
 // The full walk over a plan's words (theory's Plan): by recursion from block to block, jump before fall; an edge that
 // makes a conflict is not taken. What its words and turns mean is in specs/Terms.antt. What goes down the recursion is
-// plain words, and the route kept stands in lent words: so a step is a few registers, and no struct is copied down or
+// plain words, and the routes kept stand in lent words: so a step is a few registers, and no struct is copied down or
 // back.
 ghost use mathlib.Core.Path.{_≡_};
+ghost use mathlib.Core.Bool.{cond};
+ghost use mathlib.Core.Option.{none, some};
 ghost use Prim.Native.Nat.{_+_, _^_, _<_};
-ghost use Rattle.laws.specs.Terms.{bit, heavier};
+ghost use lib.Dec.{eqb};
+ghost use Rattle.laws.specs.Terms.{Choice, bit, preferred};
 ghost use Rattle.theory.specs.Walk.{keepFirst};
 ghost use Rattle.theory.specs.WalkWords.{advance};
 ghost use Rattle.theory.specs.Plan.{costAt, PlanOf};
 ghost use Rattle.entries.specs.Structs.{wordsIn};
-ghost use Rattle.search.specs.Terms.{bannedAt, routeIn, foundIn, Standing, Entered, Barring, Walks};
-ghost use Rattle.search.specs.Terms.{isOpen, Searched};
+ghost use Rattle.search.specs.Terms.{bannedAt, keptIn, foundIn, Standing, Entered, Barring};
+ghost use Rattle.search.specs.Terms.{isOpen, Walks, Searched};
 use entries::Way;
 
 // The banned edges: those by jump or go, those by fall.
@@ -60,16 +63,47 @@ fn step(plan: &[u64; 1024], b: usize, way: usize, at: Way) -> Way
     }
 }
 
-// A whole route is kept where it is the first, or heavier than the one kept.
-fn keep(way: Way, best: &mut [u64; 4])
-    ensures { λ _. ⌜ routeIn (now (best .exit)) ≡ keepFirst heavier (routeIn (now (best .entry))) (wordsIn way) ⌝ }
+// Of the route kept so far, if there is any, and this one, the first of the weight preferred by the choice.
+fn kept(lightest: bool, any: u64, held: Way, way: Way) -> Way
+    ensures { λ r. ⌜ some (wordsIn r)
+        ≡ keepFirst (preferred lightest) (cond (eqb any 1) (some (wordsIn held)) none) (wordsIn way) ⌝ }
 {
-    if best[0] == 1 {
-        if way.weight <= best[1] {
-            return;
+    if any == 1 {
+        if entries::prefers(lightest, way.weight, held.weight) {
+            return way;
         }
+        return held;
     }
-    *best = [1, way.weight, way.jumped, way.fallen];
+    way
+}
+
+// A whole route, by both choices.
+fn keep(way: Way, best: &mut [u64; 8])
+    ensures { λ _. ⌜ ((choice : Choice) → keptIn choice (now (best .exit))
+        ≡ keepFirst (preferred choice) (keptIn choice (now (best .entry))) (wordsIn way)) ⌝ }
+{
+    let heaviest = Way {
+        weight: best[1],
+        jumped: best[2],
+        fallen: best[3],
+    };
+    let lightest = Way {
+        weight: best[5],
+        jumped: best[6],
+        fallen: best[7],
+    };
+    let heavy = kept(false, best[0], heaviest, way);
+    let light = kept(true, best[4], lightest, way);
+    *best = [
+        1,
+        heavy.weight,
+        heavy.jumped,
+        heavy.fallen,
+        1,
+        light.weight,
+        light.jumped,
+        light.fallen,
+    ];
 }
 
 // Whether block b may be left by a way: there is one, its edge is not banned, and the budget is not passed.
@@ -81,7 +115,7 @@ fn open(target: u64, banned: u64, b: usize, walked: u64, budget: u64) -> bool
 }
 
 // All that is found from block b on, where these edges are banned, the way so far is this and so many beginnings are
-// walked: how many then; the first heaviest route, if there is any, is kept in the lent words.
+// walked: how many then; the first heaviest and the first lightest route, if there is any, are kept in the lent words.
 fn walk_from(
     plan: &[u64; 1024],
     count: usize,
@@ -93,11 +127,11 @@ fn walk_from(
     jumped: u64,
     fallen: u64,
     walked: u64,
-    best: &mut [u64; 4],
+    best: &mut [u64; 8],
 ) -> u64
     requires { ⌜ Standing (now plan) count budget b weight walked ⌝ }
-    ensures { λ r. ⌜ Walks heavier (now (plan .entry)) count budget b (jumps, falls) (weight, (jumped, fallen))
-        (walked, now (best .entry)) (r, now (best .exit)) ⌝ }
+    ensures { λ r. ⌜ ((choice : Choice) → Walks choice (now (plan .entry)) count budget b (jumps, falls)
+        (weight, (jumped, fallen)) (walked, now (best .entry)) (r, now (best .exit))) ⌝ }
 {
     let here = enter(plan, b, Banned { jumps, falls });
     let way = Way {
@@ -149,16 +183,22 @@ fn walk_from(
     seen
 }
 
-// All that is found from block 0 on: how many beginnings, and the words of the route.
-pub fn search(plan: &[u64; 1024], count: usize, budget: u64) -> [u64; 5]
+// All that is found from block 0 on: how many beginnings, and the words of both routes.
+pub fn search(plan: &[u64; 1024], count: usize, budget: u64) -> [u64; 9]
     requires { ⌜ PlanOf (now plan) count × (budget < 4294967296) ⌝ }
-    ensures { λ r. ⌜ Searched heavier (now (plan .entry)) count budget (foundIn r) ⌝ }
+    ensures { λ r. ⌜ ((choice : Choice) → Searched choice (now (plan .entry)) count budget (foundIn r)) ⌝ }
 {
-    let mut best = [0; 4];
+    let mut best = [0; 8];
     let walked = walk_from(plan, count, budget, 0, 0, 0, 0, 0, 0, 0, &mut best);
-    let any = best[0];
-    let weight = best[1];
-    let jumped = best[2];
-    let fallen = best[3];
-    [walked, any, weight, jumped, fallen]
+    [
+        walked,
+        best[0],
+        best[1],
+        best[2],
+        best[3],
+        best[4],
+        best[5],
+        best[6],
+        best[7],
+    ]
 }

@@ -53,7 +53,7 @@ use Rattle.sweep_steps.proofs.make.Symbol.{name as #sweep-steps·make}
 
 -- the words of a row
 abbrev size : ℕ
-size = 320
+size = 512
 
 module _ {M : Type 1} (𝓤 : URA M) (H : Heap 𝓤) (A : Atoms 𝓤) (mem : Memory → SProp 𝓤) (run : Routine → Fun 𝓤) where
   abbrev pub Make : Contract 𝓤

@@ -14,7 +14,7 @@ use sweep_steps::Swept;
 
 // The table's entries, `entries` of them from entry `from` on, into a row; the table stays as it is. How many.
 fn fetch(table: &mut [Entry], from: usize, entries: usize, row: &mut [u64]) -> usize
-    requires { ⌜ ((entries ≤ 64) × (length (now row) ≡ 320)) ×
+    requires { ⌜ ((entries ≤ 64) × (length (now row) ≡ 512)) ×
         ((k : ℕ) → k < entries → from + k < length (now table)) ⌝ }
     ensures { λ r. ⌜ (now (table .exit) ≡ now (table .entry)) ×
         (now (row .exit) ≡ fetched (now (row .entry)) (now (table .entry)) from entries) ⌝ }
@@ -30,7 +30,7 @@ fn fetch(table: &mut [Entry], from: usize, entries: usize, row: &mut [u64]) -> u
 
 // The first entries of a row's words into the table, `entries` of them, from entry `from` on; how many.
 fn store(table: &mut [Entry], from: usize, words: &[u64], entries: usize) -> usize
-    requires { ⌜ ((entries ≤ 64) × (length (now words) ≡ 320)) × (from + entries ≤ length (now table)) ⌝ }
+    requires { ⌜ ((entries ≤ 64) × (length (now words) ≡ 512)) × (from + entries ≤ length (now table)) ⌝ }
     ensures { λ r. ⌜ now (table .exit) ≡ stored (now (table .entry)) from (now (words .entry)) entries ⌝ }
 {
     let mut k = 0;
@@ -47,9 +47,9 @@ fn sweep_rows(plan: &[u64], count: usize, table: &mut [Entry]) -> Swept
     requires { ⌜ (0 < count → PlanOf (now plan) count) × (64 * count ≤ length (now table)) ⌝ }
     ensures { λ r. ⌜ Rowed (now (plan .entry)) count (now (table .entry)) (now (table .exit)) r ⌝ }
 {
-    let mut first = [0; 320];
-    let mut second = [0; 320];
-    let mut made = [0; 320];
+    let mut first = [0; 512];
+    let mut second = [0; 512];
+    let mut made = [0; 512];
     let mut at = sweep_steps::start(plan, count);
     while at.going {
         let s = sweep_steps::sources_of(plan, at);
@@ -62,8 +62,8 @@ fn sweep_rows(plan: &[u64], count: usize, table: &mut [Entry]) -> Swept
     sweep_steps::finish(at)
 }
 
-// The sweep, for any bytes: the loop count, the first heaviest conflict-free route with its bytes, count times weight,
-// and the longest row, with all rows in the table; or a refusal.
+// The sweep, for any bytes: the loop count, the first heaviest and the first lightest conflict-free route with their
+// bytes, count times each weight, and the longest row, with all rows in the table; or a refusal.
 pub fn sweep(form: &[u8], table: &mut [Entry], route: &mut [u8]) -> SweepAnswer
     ensures { λ r. ⌜ SweepOwed (now (form .entry)) (now (route .entry)) (now (table .entry))
         (outcomeOf r (now (route .exit)) (now (table .exit))) ⌝ }
@@ -72,16 +72,16 @@ pub fn sweep(form: &[u8], table: &mut [Entry], route: &mut [u8]) -> SweepAnswer
     let plan = ready.plan;
     let blocks = sweep_steps::allowed(ready.count, table.len(), route.len());
     let swept = sweep_rows(&plan, blocks, table);
-    let mut first = [0; 320];
+    let mut first = [0; 512];
     fetch(table, 0, sweep_steps::lesser(blocks, 1), &mut first);
     sweep_steps::conclude(ready, table.len(), swept, first, route)
 }
 
-// The same over a table of its own, as large as the report program's: 1,536 entries.
+// The same over a table of its own, as large as the report program's: 1,024 entries.
 pub fn sweep_own(form: &[u8], route: &mut [u8]) -> SweepAnswer
     ensures { λ r. ⌜ OwnTableOwed (now (form .entry)) (now (route .entry)) r (now (route .exit)) ⌝ }
 {
     let none = sweep_steps::no_entry();
-    let mut table = [none; 1536];
+    let mut table = [none; 1024];
     sweep(form, &mut table, route)
 }

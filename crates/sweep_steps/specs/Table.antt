@@ -11,22 +11,22 @@ use borrow.Author.Tests.{eqb-true, eqb-false}
 use lib.Dec.{eqb}
 use lib.ListN.{length, getD, take, drop, set, replicate, length-set, length-append, length-replicate, length-map, take-append-drop, replicate-append-replicate, List·getD-append}
 use lib.Seq.{paste, paste-zero, paste-suc, take-append-le, take-append-add, take-take, take-all, drop-at, length-take-le, getD-take, getD-drop, getD-append-add}
-use Rattle.laws.specs.Terms.{Mem, each, range}
+use Rattle.laws.specs.Terms.{Choice, heaviest, lightest, Mem, each, range}
 use Rattle.laws.specs.Tests.{split}
 use Rattle.theory.specs.Row as theory
 use Rattle.theory.specs.Row.{Key, filled}
 use Rattle.theory.specs.SweepWords as words
-use Rattle.theory.specs.SweepWords.{Words}
 use Rattle.entries.specs.declared.Entry.{Entry}
-use Rattle.entries.specs.Entries.{entryAt, entriesFrom, entryPut, put-length, put-at, put-below, entry-alike, entries-append, entries-length}
+use Rattle.entries.specs.Entries.{Both, entryAt, entriesFrom, entryPut, put-length, put-at, put-below, entry-alike, entries-append, entries-length}
 use Rattle.entries.specs.Structs.{tupleOf, structOf, structAt}
 use Rattle.rows.specs.Begun.{zeroRow}
-use Rattle.sweep_steps.specs.Answer.{entryFrom, noEntry, tableWith}
+use Rattle.rows.specs.Sides.{sideRow}
+use Rattle.sweep_steps.specs.Answer.{sideBySide, noEntry, tableWith}
 
 -- ---- entries of the table
 
 -- the n entries from entry i on
-unfoldable pub entriesIn : List Entry → ℕ → ℕ → List (Key × Words)
+unfoldable pub entriesIn : List Entry → ℕ → ℕ → List (Key × Both)
 entriesIn l i zero = []
 entriesIn l i (suc n) = tupleOf (getD l i noEntry) ∷ entriesIn l (suc i) n
 
@@ -95,7 +95,7 @@ module _ (row : List ℕ) (table : List Entry) (from : ℕ) where
   fetched-length (suc k) = put-length (fetched row table from k) k (tupleOf (getD table (from + k) noEntry))
       ∙ fetched-length k
 
-  pub fetched-at : (n : ℕ) → 5 * n ≤ length row → (j : ℕ) → j < n → entryAt (fetched row table from n) j ≡ tupleOf
+  pub fetched-at : (n : ℕ) → 8 * n ≤ length row → (j : ℕ) → j < n → entryAt (fetched row table from n) j ≡ tupleOf
       (getD table (from + j) noEntry)
   unfolding fetched
   fetched-at (suc k) room j h = split (eqb j k)
@@ -106,7 +106,7 @@ module _ (row : List ℕ) (table : List Entry) (from : ℕ) where
       ∙ ap (λ i. tupleOf (getD table (from + i) noEntry)) (sym e))
       (λ q. let e = eqb-false j k q in
       entry-alike (fetched row table from (suc k)) (fetched row table from k) j j
-      (λ i l. put-below (fetched row table from k) k (tupleOf (getD table (from + k) noEntry)) (5 * j + i)
+      (λ i l. put-below (fetched row table from k) k (tupleOf (getD table (from + k) noEntry)) (8 * j + i)
       (omega arith))
       ∙ fetched-at k (omega arith) j (omega arith))
 
@@ -115,7 +115,7 @@ abbrev pub rowFetched : (table : List Entry) → (from n : ℕ) → List ℕ
 rowFetched table from n = fetched zeroRow table from n
 
 -- whatever stood in the row before
-module _ (row : List ℕ) (size : length row ≡ 320) (table : List Entry) (from : ℕ) where
+module _ (row : List ℕ) (size : length row ≡ 512) (table : List Entry) (from : ℕ) where
   pub row-fetched-at : (n : ℕ) → n ≤ 64 → (j : ℕ) → j < n → entryAt (fetched row table from n) j ≡ tupleOf
       (getD table (from + j) noEntry)
   row-fetched-at n few = fetched-at row table from n (omega (arith, size))
@@ -198,20 +198,23 @@ module _ {A : Type 0} (z : A) (d s : List A) (at n : ℕ) (room : at + n ≤ len
 -- ---- a row as document 01 has it
 
 -- words of zero are entries of zero
-none-laid : (l : List ℕ) (m i : ℕ) → ((k : ℕ) → 5 * i ≤ k → getD l k 0 ≡ 0) → map structOf (entriesFrom l i m)
+none-laid : (l : List ℕ) (m i : ℕ) → ((k : ℕ) → 8 * i ≤ k → getD l k 0 ≡ 0) → map structOf (entriesFrom l i m)
     ≡ replicate m noEntry
 unfolding entriesFrom
 none-laid l zero i z = refl
 none-laid l (suc m) i z =
-    let e : entryAt l i ≡ ((0, 0), (0, (0, 0))) = λ u. (
-      (z (5 * i) (omega arith) u, z (5 * i + 1) (omega arith) u),
-      (z (5 * i + 2) (omega arith) u, (z (5 * i + 3) (omega arith) u, z (5 * i + 4) (omega arith) u)),
+    let e : entryAt l i ≡ ((0, 0), ((0, (0, 0)), (0, (0, 0)))) = λ u. (
+      (z (8 * i) (omega arith) u, z (8 * i + 1) (omega arith) u),
+      (
+        (z (8 * i + 2) (omega arith) u, (z (8 * i + 2 + 1) (omega arith) u, z (8 * i + 2 + 2) (omega arith) u)),
+        (z (8 * i + 5) (omega arith) u, (z (8 * i + 5 + 1) (omega arith) u, z (8 * i + 5 + 2) (omega arith) u)),
+      ),
     ) in
     let rest : map structOf (entriesFrom l (suc i) m) ≡ replicate m noEntry = none-laid l m (suc i)
     (λ k h. z k (omega arith)) in
     λ u. structOf (e u) ∷ rest u
 
-map-append : {A B : Type 0} (f : A → B) (l r : List A) → map f (l ++ r) ≡ map f l ++ map f r
+pub map-append : {A B : Type 0} (f : A → B) (l r : List A) → map f (l ++ r) ≡ map f l ++ map f r
 map-append f [] r = refl
 map-append f (x ∷ l) r = ap (λ t. f x ∷ t) (map-append f l r)
 
@@ -228,36 +231,56 @@ filled-is r m h =
     whole : (m : ℕ) → length r + m ≡ 64 → m + (64 - m) ≡ 64
     whole m h = omega arith
 
-map-replicate : {A B : Type 0} (f : A → B) (n : ℕ) (x : A) → map f (replicate n x) ≡ replicate n (f x)
-map-replicate f zero x = refl
-map-replicate f (suc n) x = ap (λ l. f x ∷ l) (map-replicate f n x)
+-- a side of a row of entries as document 01 has it
+abbrev pub sideLaid : Choice → List (Key × Both) → List theory.Entry
+sideLaid choice r = map words.entryFrom (sideRow choice r)
 
-laid : (es : List (Key × Words)) → map entryFrom (map words.entryFrom es) ≡ map structOf es
-laid [] = refl
-laid (e ∷ es) = ap (λ l. structOf e ∷ l) (laid es)
+side-length : (choice : Choice) (r : List (Key × Both)) → length (sideLaid choice r) ≡ length r
+side-length choice [] = refl
+side-length choice (e ∷ r) = ap suc (side-length choice r)
+
+none-beside : (m : ℕ) → sideBySide (replicate m theory.noEntry) (replicate m theory.noEntry) ≡ replicate m noEntry
+unfolding sideBySide
+none-beside zero = refl
+none-beside (suc m) = ap (λ l. noEntry ∷ l) (none-beside m)
+
+-- the two sides of a row, and no entries behind them, side by side
+laid : (r : List (Key × Both)) (m : ℕ)
+    → sideBySide (sideLaid heaviest r ++ replicate m theory.noEntry) (sideLaid lightest r ++ replicate m theory.noEntry)
+    ≡ map structOf r ++ replicate m noEntry
+unfolding sideBySide
+laid [] m = none-beside m
+laid (e ∷ r) m = ap (λ l. structOf e ∷ l) (laid r m)
 
 -- a row of n entries with zeros behind them is the row as it stands in the table
-pub row-laid : (row : List ℕ) (n : ℕ) → n ≤ 64 → ((k : ℕ) → 5 * n ≤ k → getD row k 0 ≡ 0) → structsOf row
-    ≡ map entryFrom (filled (map words.entryFrom (entriesFrom row 0 n)))
+pub row-laid : (row : List ℕ) (n : ℕ) → n ≤ 64 → ((k : ℕ) → 8 * n ≤ k → getD row k 0 ≡ 0)
+    → structsOf row ≡ sideBySide (filled (sideLaid heaviest (entriesFrom row 0 n)))
+    (filled (sideLaid lightest (entriesFrom row 0 n)))
 row-laid row n few zeros =
     ap (map structOf) (ap (entriesFrom row 0) (sym whole) ∙ entries-append row 0 n (64 - n) ∙ ap
     (λ i. entriesFrom row 0 n ++ entriesFrom row i (64 - n)) (zero-add n))
     ∙ map-append structOf (entriesFrom row 0 n) (entriesFrom row n (64 - n))
-    ∙ ap₂ (λ l m. l ++ m) (sym (laid (entriesFrom row 0 n)))
-    (none-laid row (64 - n) n zeros ∙ sym (map-replicate entryFrom (64 - n) theory.noEntry))
-    ∙ sym (map-append entryFrom (map words.entryFrom (entriesFrom row 0 n)) (replicate (64 - n) theory.noEntry))
-    ∙ ap (map entryFrom) (sym (filled-is (map words.entryFrom (entriesFrom row 0 n)) (64 - n)
-    (omega (arith, length-map (entriesFrom row 0 n) words.entryFrom, entries-length row 0 n))))
+    ∙ ap (λ l. map structOf (entriesFrom row 0 n) ++ l) (none-laid row (64 - n) n zeros)
+    ∙ sym (laid (entriesFrom row 0 n) (64 - n))
+    ∙ ap₂ sideBySide (sym (side-filled heaviest)) (sym (side-filled lightest))
   where
     whole : n + (64 - n) ≡ 64
     whole = omega arith
 
+    side-filled : (choice : Choice) → filled (sideLaid choice (entriesFrom row 0 n))
+        ≡ sideLaid choice (entriesFrom row 0 n) ++ replicate (64 - n) theory.noEntry
+    side-filled choice = filled-is (sideLaid choice (entriesFrom row 0 n)) (64 - n)
+        (omega (arith, side-length choice (entriesFrom row 0 n), entries-length row 0 n))
+
 -- ---- the rows of the table
 
-module _ (rows : ℕ → List theory.Entry) (count : ℕ) (lent : List Entry) where
+module _ (rows : Choice → ℕ → List theory.Entry) (count : ℕ) (lent : List Entry) where
+  abbrev rowAt : ℕ → List Entry
+  rowAt b = sideBySide (filled (rows heaviest b)) (filled (rows lightest b))
+
   -- the n rows from row a on
   abbrev rowsFrom : ℕ → ℕ → List Entry
-  rowsFrom a n = each (range a n) (λ b. map entryFrom (filled (rows b)))
+  rowsFrom a n = each (range a n) rowAt
 
   pub table-none : tableWith rows count count lent ≡ lent
   unfolding tableWith
@@ -268,8 +291,7 @@ module _ (rows : ℕ → List theory.Entry) (count : ℕ) (lent : List Entry) wh
       none = omega arith
 
   -- one row more
-  pub table-more : (b : ℕ) (r : List Entry) → b < count → 64 * count ≤ length lent → length r ≡ 64 → r ≡ map entryFrom
-      (filled (rows b))
+  pub table-more : (b : ℕ) (r : List Entry) → b < count → 64 * count ≤ length lent → length r ≡ 64 → r ≡ rowAt b
       → paste (tableWith rows (suc b) count lent) (64 * b) r 64 ≡ tableWith rows b count lent
   unfolding tableWith
   table-more b r h room size e =
@@ -280,7 +302,7 @@ module _ (rows : ℕ → List theory.Entry) (count : ℕ) (lent : List Entry) wh
       ∙ ap (λ n. take (64 * b) lent ++ rowsFrom b n ++ drop (64 * count) lent) (sym one-more)
     where
       own : List Entry
-      own = map entryFrom (filled (rows b))
+      own = rowAt b
 
       rest : List Entry
       rest = rowsFrom (suc b) (count - suc b)

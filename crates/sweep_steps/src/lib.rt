@@ -2,17 +2,17 @@
 // of, the row itself, what follows it, and the answer from row 0. Nothing here has a slice of structs, and all is
 // covered; crate sweep puts these steps together over the lent table.
 ghost use mathlib.Core.Path.{_≡_};
-ghost use Prim.Native.Nat.{ℕ, max, min, _-_, _^_, _<_, _≤_};
+ghost use Prim.Native.Nat.{ℕ, max, min, _-_, _*_, _^_, _<_, _≤_};
 ghost use lib.ListN.{length, getD};
+ghost use Rattle.laws.specs.Terms.{Choice};
 ghost use Rattle.theory.specs.Plan.{costLimit};
-ghost use Rattle.entries.specs.Structs.{structAt};
 ghost use Rattle.rows.specs.Rows.{Ready, tailsBy, leftFrom};
 ghost use Rattle.rows.specs.Begun.{begunWith, zeroRow};
 ghost use Rattle.sweep_steps.specs.Answer.{noEntry};
 ghost use Rattle.sweep_steps.specs.Turn.{firstOf, sourcesOf, tailsIn, wholeOf, BuiltAs};
 ghost use Rattle.sweep_steps.specs.Drive.{noLengths};
 ghost use Rattle.sweep_steps.specs.Driven.{started, following, finished};
-ghost use Rattle.sweep_steps.specs.Ends.{allowedOf, WeightFew, answerOf, concluded};
+ghost use Rattle.sweep_steps.specs.Ends.{allowedOf, firstWeight, entryIn, WeightFew, answerOf, concluded};
 ghost use Rattle.sweep_steps.specs.declared.SweepAnswer.the-variants.{Refused};
 use entries::Entry;
 use entries::Way;
@@ -90,11 +90,11 @@ fn whole_of(held: usize) -> usize
 
 // The words of a row, all zero.
 fn clear(row: &mut [u64])
-    requires { ⌜ length (now row) ≡ 320 ⌝ }
+    requires { ⌜ length (now row) ≡ 512 ⌝ }
     ensures { λ r. ⌜ now (row .exit) ≡ zeroRow ⌝ }
 {
     let mut k = 0;
-    while k < 320 {
+    while k < 512 {
         row[k] = 0;
         k += 1;
     }
@@ -109,7 +109,7 @@ pub fn make(
     second: &[u64],
     made: &mut [u64],
 ) -> Built
-    requires { ⌜ Ready (now plan) (s .b) (tailsIn s) (now first) (now second) × (length (now made) ≡ 320) ⌝ }
+    requires { ⌜ Ready (now plan) (s .b) (tailsIn s) (now first) (now second) × (length (now made) ≡ 512) ⌝ }
     ensures { λ r. ⌜ BuiltAs
         (leftFrom (now (plan .entry)) (s .b) (tailsBy (tailsIn s) (now (first .entry)) (now (second .entry))) 1
         (begunWith (now (plan .entry)) count (s .b))) (s .b) (now (made .exit)) r ⌝ }
@@ -202,13 +202,15 @@ pub fn finish(at: Drive) -> Swept
     }
 }
 
-// The sweep's answer: the loop count, the weight of the first heaviest route, count times weight, and the longest row;
-// or the refusal's number and place.
+// The sweep's answer: the loop count, the weight of the first heaviest route and count times it, the weight of the
+// first lightest route and count times it, and the longest row; or the refusal's number and place.
 pub enum SweepAnswer {
     Routed {
         iterations: u64,
         weight: u64,
         bound: u64,
+        least: u64,
+        least_total: u64,
         kept: u64,
     },
     Refused {
@@ -223,7 +225,7 @@ fn refuse(number: u32, place: usize) -> SweepAnswer
     SweepAnswer::Refused { number, place }
 }
 
-// From row 0, which has one entry or none: the answer, and the route's bytes.
+// From row 0, which has one entry or none: the answer, and both routes' bytes.
 fn answer(
     count: usize,
     iterations: u64,
@@ -232,32 +234,41 @@ fn answer(
     row: &[u64],
     route: &mut [u8],
 ) -> SweepAnswer
-    requires { ⌜ (count ≤ length (now route)) × ((length (now row) ≡ 320) × (iterations < 4294967296)) ⌝ }
-    requires { ⌜ (0 < found → structAt (now row) 0 .way .weight ≤ costLimit) ⌝ }
+    requires { ⌜ (2 * count ≤ length (now route)) × ((length (now row) ≡ 512) × (iterations < 4294967296)) ⌝ }
+    requires { ⌜ (0 < found → (choice : Choice) → firstWeight choice (now row) ≤ costLimit) ⌝ }
     ensures { λ r. ⌜ (r, now (route .exit)) ≡ answerOf count iterations kept found
-        (structAt (now (row .entry)) 0 .way) (now (route .entry)) ⌝ }
+        (entryIn (now (row .entry))) (now (route .entry)) ⌝ }
 {
     if found == 0 {
         return refuse(43, 0);
     }
     let first = entries::entry_at(row, 0);
-    let way = first.way;
-    let weight = way.weight;
-    plan::route::write_route(route, 0, count, way.jumped, way.fallen);
+    let heavy = first.heaviest;
+    let light = first.lightest;
+    plan::route::write_routes(
+        route,
+        count,
+        heavy.jumped,
+        heavy.fallen,
+        light.jumped,
+        light.fallen,
+    );
     SweepAnswer::Routed {
         iterations,
-        weight,
-        bound: iterations * weight,
+        weight: heavy.weight,
+        bound: iterations * heavy.weight,
+        least: light.weight,
+        least_total: iterations * light.weight,
         kept: kept as u64,
     }
 }
 
-// How many blocks are swept: none where the route's bytes or the table's entries are too few.
+// How many blocks are swept: none where the routes' bytes or the table's entries are too few.
 pub fn allowed(count: usize, entries: usize, bytes: usize) -> usize
     requires { ⌜ count ≤ 64 ⌝ }
     ensures { λ r. ⌜ r ≡ allowedOf count entries bytes ⌝ }
 {
-    if bytes < count {
+    if bytes < 2 * count {
         return 0;
     }
     if entries < 64 * count {
@@ -273,12 +284,12 @@ pub fn lesser(a: usize, b: usize) -> usize
     if a < b { a } else { b }
 }
 
-// The answer, from the rows and row 0; the route's bytes.
+// The answer, from the rows and row 0; both routes' bytes.
 pub fn conclude(
     ready: Prepared,
     entries: usize,
     swept: Swept,
-    first: [u64; 320],
+    first: [u64; 512],
     route: &mut [u8],
 ) -> SweepAnswer
     requires { ⌜ (ready .count ≤ 64) ×
@@ -289,8 +300,8 @@ pub fn conclude(
         return refuse(ready.number, ready.place);
     }
     let count = ready.count;
-    if route.len() < count {
-        return refuse(42, count);
+    if route.len() < 2 * count {
+        return refuse(42, 2 * count);
     }
     if entries < 64 * count {
         return refuse(44, 64 * count);
@@ -313,6 +324,7 @@ pub fn no_entry() -> Entry
     Entry {
         jumps: 0,
         falls: 0,
-        way,
+        heaviest: way,
+        lightest: way,
     }
 }

@@ -11,7 +11,7 @@ use lib.Dec.{eqb}
 use lib.IntN.{ℤ, pos}
 use mir.Syntax.{w32}
 use mir.Val.{SFits}
-use Rattle.laws.specs.Terms.{heavier, lighter, range, setOf}
+use Rattle.laws.specs.Terms.{Choice, heaviest, lightest, preferred, range, setOf}
 use Rattle.form.specs.declared.Body.{Body}
 use Rattle.form.specs.declared.Block.{Block}
 use Rattle.form.specs.declared.Effect.{Effect}
@@ -19,7 +19,7 @@ use Rattle.form.specs.Conflict.{Pair, block, effectsBelow, effectsOf, touches, 
 use Rattle.form.specs.Conflict.{contradict, opposes, denies, clean, assigned, crossed, pairsOf, conflicts}
 use Rattle.form.specs.Conflict.{conflictBytes, listed}
 use Rattle.theory.specs.Route.{stepCost, paths, conflict, tails, routes, weight, best, weighed, bestRoute}
-use Rattle.theory.specs.Route.{dearest, cheapest, routeOn, wayOf, routeBytes, beginnings, walked}
+use Rattle.theory.specs.Route.{sideOf, routeOn, wayOf, routeBytes, beginnings, walked}
 use Rattle.theory.specs.Row.{Entry, bare, openEdges, addKey, keys, rowOf, openSets, openTails, leftBy, row}
 use Rattle.theory.specs.Row.{longest, kept, highest, crowded}
 use Rattle.theory.specs.Run.{State, Does, Iteration}
@@ -105,9 +105,9 @@ unfolding bestRoute weight block
 best-by prefers = ap (λ l. best prefers (map (weighed example (stepCost example)) l)) routes-are
 
 -- the heaviest, and its bytes
-pub best-is : routeOn example (dearest example) ≡ some (43, (0, 1) ∷ (2, 1) ∷ (3, 2) ∷ (5, 2) ∷ (6, 1) ∷ [])
+pub best-is : routeOn example (sideOf example heaviest) ≡ some (43, (0, 1) ∷ (2, 1) ∷ (3, 2) ∷ (5, 2) ∷ (6, 1) ∷ [])
 unfolding best
-best-is = best-by heavier
+best-is = best-by (preferred heaviest)
 
 pub bytes-are : routeBytes example ((0, 1) ∷ (2, 1) ∷ (3, 2) ∷ (5, 2) ∷ (6, 1) ∷ []) ≡ 1 ∷ 0 ∷ 1 ∷ 2 ∷ 0 ∷ 2 ∷ 1 ∷ 3
     ∷ []
@@ -115,9 +115,9 @@ unfolding routeBytes wayOf
 bytes-are = refl
 
 -- the lightest, and its bytes
-pub least-is : routeOn example (cheapest example) ≡ some (17, (0, 2) ∷ (1, 1) ∷ (3, 2) ∷ (5, 1) ∷ [])
+pub least-is : routeOn example (sideOf example lightest) ≡ some (17, (0, 2) ∷ (1, 1) ∷ (3, 2) ∷ (5, 1) ∷ [])
 unfolding best
-least-is = best-by lighter
+least-is = best-by (preferred lightest)
 
 pub least-bytes-are : routeBytes example ((0, 2) ∷ (1, 1) ∷ (3, 2) ∷ (5, 1) ∷ []) ≡ 2 ∷ 1 ∷ 0 ∷ 2 ∷ 0 ∷ 1 ∷ 0 ∷ 3 ∷ []
 unfolding routeBytes wayOf
@@ -128,15 +128,15 @@ unfolding block effectsBelow effectsOf touches lastOn exits isTest condition con
     beginnings walked
 walked-is = refl
 
-abbrev rowAt : ℕ → List Entry
-rowAt b = row example pairs (stepCost example) heavier b
+abbrev rowAt : Choice → ℕ → List Entry
+rowAt choice b = row example pairs (stepCost example) (preferred choice) b
 
 abbrev entry : ℕ → ℕ → ℕ → ℕ → ℕ → Entry
 entry jumps falls weight jumped fallen =
     record { jumps = jumps; falls = falls; weight = weight; jumped = jumped; fallen = fallen }
 
--- all eight rows, block 0 first
-pub rows-are : map rowAt (range 0 8)
+-- all eight rows of the heaviest, block 0 first
+pub rows-are : map (rowAt heaviest) (range 0 8)
     ≡ (entry 0 0 43 69 40 ∷ [])
     ∷ (entry 0 0 10 34 8 ∷ entry 8 0 35 58 0 ∷ [])
     ∷ (entry 0 0 36 68 40 ∷ entry 8 0 61 92 32 ∷ [])
@@ -148,6 +148,12 @@ pub rows-are : map rowAt (range 0 8)
 unfolding block effectsBelow effectsOf touches lastOn exits isTest condition contradict opposes denies conflict paths
     tails weight best listed bare openEdges addKey keys rowOf openTails leftBy row setOf
 rows-are = refl
+
+-- row 0 of the lightest
+pub least-row-is : rowAt lightest 0 ≡ entry 0 0 17 34 9 ∷ []
+unfolding block effectsBelow effectsOf touches lastOn exits isTest condition contradict opposes denies conflict paths
+    tails weight best listed bare openEdges addKey keys rowOf openTails leftBy row setOf
+least-row-is = refl
 
 four-at-most : longest (openSets example pairs) 8 ≡ 4
 unfolding block effectsBelow effectsOf touches lastOn exits isTest condition contradict opposes denies conflict paths
@@ -166,6 +172,33 @@ none-crowded = refl
 pub crowded-is : crowded example ≡ none
 unfolding crowded
 crowded-is = ap (λ l. highest (openSets example l) 8) pairs-are ∙ none-crowded
+
+-- ---- a body whose lightest path, of weight 3, and whose heaviest, of weight 23, have a conflict, and whose two routes
+-- weigh the same: x >= 5 in block 0, x < 5 in block 2, and nothing between
+
+abbrev struck : Body
+struck = record {
+  counter = record { initial = pos 0; step = pos 1; relation = 2; limit = pos 10 };
+  count = 5;
+  blocks =
+      asks 1 0 3 (pos 5) 2 1 ∷ goesTo 10 0 2 ∷ asks 1 0 2 (pos 5) 4 3 ∷ goesTo 10 0 4
+      ∷ record { cost = 1; ending = 0; jump = 0; fall = 0; variable = 0; relation = 0; constant = pos 0; effects = 0 }
+      ∷ [];
+  total = 0;
+  effects = [];
+}
+
+pub all-weights : map (weight (stepCost struck) 4) (paths struck 5 0) ≡ 3 ∷ 13 ∷ 13 ∷ 23 ∷ []
+unfolding paths exits block weight
+all-weights = refl
+
+-- by either choice the first of the two
+pub first-of-equals : (choice : Choice)
+    → routeOn struck (sideOf struck choice) ≡ some (13, (0, 1) ∷ (2, 2) ∷ (3, 1) ∷ [])
+unfolding block effectsBelow effectsOf touches lastOn exits isTest condition contradict opposes denies paths conflict
+    tails weight best bestRoute
+first-of-equals false = refl
+first-of-equals true = refl
 
 -- an iteration that starts with 50 in every variable takes the heaviest route
 abbrev fifty : State

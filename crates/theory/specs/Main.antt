@@ -9,7 +9,7 @@ use Prim.Native.Nat.{ℕ, _≤_, _<_}
 use native.Mathlib.Omega.{arith}
 use lib.ListN.{length}
 use Rattle.laws.specs.Terms.{heavier}
-use Rattle.laws.specs.Orders.{Choice}
+use Rattle.laws.specs.Orders.{Preference}
 use Rattle.form.specs.declared.Body.{Body}
 use Rattle.form.specs.Conflict.{Sound, conflicts}
 use Rattle.theory.specs.Route.{Path, tails, bestRoute, walked, boundOf}
@@ -27,7 +27,7 @@ use Rattle.theory.specs.answers.SweepWords.{Words, wordsOf, wordsFound, 
 use Rattle.theory.specs.answers.SweepWords.{sweep-words}
 use Rattle.theory.specs.answers.WalkWords.{advance, finish, nothing, walk-words}
 
-module _ (body : Body) (g : Sound body) (cost : ℕ → ℕ → ℕ) (prefers : ℕ → ℕ → Bool) (ch : Choice prefers) where
+module _ (body : Body) (g : Sound body) (cost : ℕ → ℕ → ℕ) (prefers : ℕ → ℕ → Bool) (ch : Preference prefers) where
   -- the row built from the rows above is the row by definition
   pub sweep-turn : (R : ℕ → List (Key × Words)) (b : ℕ) → b < body .count
       → ((t : ℕ) → b < t → t < body .count → R t ≡ rowWords body (conflicts body) cost prefers t)

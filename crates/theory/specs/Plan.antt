@@ -6,10 +6,11 @@ use mathlib.Core.List.{List, [], _∷_, _++_}
 use Prim.Native.Nat.{ℕ, _+_, _*_, _<_, _≤_}
 use lib.Dec.{ltb}
 use lib.ListN.{length, getD}
-use Rattle.laws.specs.Terms.{bit}
+use Rattle.laws.specs.Terms.{Choice, preferred, bit}
 use Rattle.form.specs.declared.Body.{Body}
 use Rattle.form.specs.Conflict.{exits, isTest, condition, touches, opposes, denies, listed, conflicts, Sound}
 use Rattle.theory.specs.Range.{Range}
+use Rattle.theory.specs.Route.{Side}
 
 -- word w of block b
 abbrev pub wordAt : List ℕ → ℕ → ℕ → ℕ
@@ -75,6 +76,10 @@ pub record Planned (body : Body) (cost : ℕ → ℕ → ℕ) (plan : List ℕ) 
 -- how much all steps of a body may cost together: 64 blocks of 1,000,000
 abbrev pub costLimit : ℕ
 costLimit = 64000000
+
+-- the sides by the plan's cost, which is one for both choices
+abbrev pub sidesBy : (cost : ℕ → ℕ → ℕ) → Choice → Side
+sidesBy cost choice = record { prefers = preferred choice; cost = cost }
 
 -- the plan is a sound body's, of `count` blocks, whose costs keep to the limit
 pub record PlanOf (plan : List ℕ) (count : ℕ) : Type 0 where

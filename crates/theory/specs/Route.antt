@@ -1,13 +1,13 @@
--- Routes, after document 01, 'Conflicts and routes' and 'Full walk': paths in the stated order, conflict in a path,
--- weight, the first of the preferred weight, route bytes, and the number of conflict-free beginnings. Trusted:
--- definitions only. Rests on form's Conflict.
+-- Routes, after document 01, 'Conflicts and routes' and 'Full walk', and request A1: paths in the stated order,
+-- conflict in a path, weight, the first of the preferred weight, by the choice of heaviest or lightest, route bytes,
+-- and the number of conflict-free beginnings. Trusted: definitions only. Rests on form's Conflict.
 use mathlib.Core.Bool.{Bool, not, cond, _||_, _&&_}
 use mathlib.Core.List.{List, [], _∷_, _++_, map}
 use mathlib.Core.Option.{Option, none, some}
 use Prim.Native.Nat.{ℕ, zero, suc, _+_, _-_, _*_}
 use lib.Dec.{eqb}
 use lib.ListN.{getD, length}
-use Rattle.laws.specs.Terms.{any, before, each, only, range, heavier, lighter}
+use Rattle.laws.specs.Terms.{any, before, each, only, range, Choice, heaviest, lightest, preferred}
 use Rattle.form.specs.declared.Body.{Body}
 use Rattle.form.specs.Conflict.{Edge, block, exits, condition, touches, opposes, denies}
 
@@ -82,18 +82,32 @@ pub record Side : Type 0 where
   pub prefers : ℕ → ℕ → Bool
   pub cost : ℕ → ℕ → ℕ
 
--- The dearest iteration: heavier is preferred, and a step costs what it costs.
-abbrev pub dearest : Body → Side
-dearest body = record { prefers = heavier; cost = stepCost body }
+-- What a step costs, by the choice of heaviest or lightest: the same for both.
+abbrev pub costOn : Body → Choice → ℕ → ℕ → ℕ
+costOn body choice = stepCost body
 
--- The cheapest iteration: lighter is preferred.
-abbrev pub cheapest : Body → Side
-cheapest body = record { prefers = lighter; cost = stepCost body }
+-- The side of the choice: the dearest iteration's, or the cheapest's.
+abbrev pub sideOf : Body → Choice → Side
+sideOf body choice = record { prefers = preferred choice; cost = costOn body choice }
 
 abbrev pub routeOn : Body → Side → Option (ℕ × Path)
 routeOn body side = bestRoute body (side .cost) (side .prefers)
 
--- Bound = count times weight.
+-- Two, where there are both.
+abbrev pub bothOf : {A : Type 0} → Option A → Option A → Option (A × A)
+bothOf none y = none
+bothOf (some x) none = none
+bothOf (some x) (some y) = some (x, y)
+
+-- The route of the heaviest side and that of the lightest, where there are both: none where no path is free of conflict
+-- (Best.no-routes).
+abbrev pub Routes : Type 0
+Routes = (ℕ × Path) × (ℕ × Path)
+
+abbrev pub routesOn : Body → (Choice → Side) → Option Routes
+routesOn body sides = bothOf (routeOn body (sides heaviest)) (routeOn body (sides lightest))
+
+-- Count times weight: the bound of the heaviest, the least total of the lightest.
 abbrev pub boundOf : (count weight : ℕ) → ℕ
 boundOf count weight = count * weight
 

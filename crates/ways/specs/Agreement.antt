@@ -1,28 +1,24 @@
 -- The two ways agree, from their promises alone, whatever budget, table and bytes are lent: wherever both answer they
--- say the same (`two-ways`), and what the reader and the counter refuse they refuse alike (`refuse-alike`). Rests on
--- Walk and Sweep.
-use mathlib.Core.Path.{_≡_, refl}
+-- say the same of each choice, the heaviest and the lightest (`two-ways`), and what the reader and the counter refuse
+-- they refuse alike (`refuse-alike`). Rests on Walk and Sweep.
+use mathlib.Core.Path.{_≡_}
 use mathlib.Core.List.{List}
 use Prim.Native.Nat.{ℕ, _<_}
-use Rattle.theory.specs.Route.{dearest}
+use Rattle.laws.specs.Terms.{Choice}
 use Rattle.entries.specs.declared.Entry.{Entry}
-use Rattle.walk.specs.declared.WalkAnswer.the-variants.{Walked}
 use Rattle.walk.specs.Answer as walk
-use Rattle.sweep_steps.specs.declared.SweepAnswer.the-variants.{Routed}
 use Rattle.sweep_steps.specs.Answer as sweep
 use Rattle.ways.specs.Answered.{Agree, answered-agree, same-early}
 use Rattle.ways.specs.Walk.{walkCall, walk-answered}
 use Rattle.ways.specs.Sweep.{sweepCall, sweep-answered}
 
 module _ (form : List ℕ) (budget : ℕ) (lent lent′ : List ℕ) (table : List Entry) where
-  pub two-ways : (i w n walked i′ w′ n′ kept : ℕ) (held held′ : List ℕ) (rows : List Entry)
-      → walk.WalkOwed form budget lent (walk.said (Walked i w n walked), held)
-      → sweep.SweepOwed form lent′ table (sweep.outcomeOf (Routed i′ w′ n′ kept) held′ rows)
-      → Agree form i w n i′ w′ n′ held held′
-  two-ways i w n walked i′ w′ n′ kept held held′ rows o p =
-      answered-agree dearest form lent held lent′ held′ i w n i′ w′ n′
-      (walk-answered form budget lent (walk.said (Walked i w n walked), held) o refl)
-      (sweep-answered form lent′ table (sweep.outcomeOf (Routed i′ w′ n′ kept) held′ rows) p refl)
+  pub two-ways : (choice : Choice) (x : walk.Outcome) (y : sweep.Outcome) → walk.WalkOwed form budget lent x
+      → sweep.SweepOwed form lent′ table y → x .0 .number ≡ 0 → y .values .number ≡ 0
+      → Agree choice form (x .0) (y .values) (x .1) (y .route)
+  two-ways choice x y o p z z′ =
+      answered-agree choice form lent lent′ (x .0) (y .values) (x .1) (y .route) (walk-answered form budget lent x o z)
+      (sweep-answered form lent′ table y p z′)
 
   -- 10 to 20, by either way: the other refuses with the same number and place
   pub refuse-alike : (x : walk.Outcome) (y : sweep.Outcome) → walk.WalkOwed form budget lent x

@@ -1,105 +1,160 @@
--- An answer with a route, by either way and on either side of it, and what follows from it alone: no run of at most
--- count iterations costs more than the bound (`answered-sound`), and two such answers for one form say the same
--- (`answered-agree`). Beside it, of what a call owes: where it refuses nothing it has a count (`no-refusal`), and two
--- calls refuse alike what the reader and the counter refuse (`same-early`). Rests on plan's Owed and Accepted and on
--- theory's Bound.
-use mathlib.Core.Path.{_≡_, sym, ap, subst, _∙_}
+-- An answer with routes, by either way, and what follows from it alone: no run of at most count iterations costs more
+-- than the bound, and no whole run of just count iterations costs less than the least total (`answered-bounds`); and
+-- two such answers for one form say the same of each choice (`answered-agree`). Beside it, of what a call owes: where
+-- it refuses nothing it has a count (`no-refusal`), and two calls refuse alike what the reader and the counter refuse
+-- (`same-early`). Rests on plan's Owed and Accepted and on theory's Bound.
+use mathlib.Core.Path.{_≡_, refl, sym, ap, subst, _∙_}
 use mathlib.Core.Logic.{_⊎_, inl, inr, ⊎-elim}
-use mathlib.Core.Bool.{cond}
+use mathlib.Core.Bool.{Bool, true, false, cond}
 use mathlib.Core.List.{List, _∷_, _++_}
-use mathlib.Core.Option.{some}
+use mathlib.Core.Option.{Option, none, some}
 use Prim.Native.Nat.{ℕ, suc, _<_, _≤_}
 use native.Mathlib.Omega.{arith}
 use lib.Dec.{eqb}
 use lib.ListN.{length, take, drop, length-map}
-use lib.Seq.{take-at}
-use Rattle.laws.specs.Terms.{Mem, range}
+use lib.Seq.{take-at, drop-at}
+use Rattle.laws.specs.Terms.{Choice, heaviest, lightest, chosen, Mem, range}
 use Rattle.form.specs.declared.Body.{Body}
 use Rattle.form.specs.declared.Verdict.the-variants.{Accepted, Refused}
 use Rattle.form.specs.Form.{judge, bodyOf}
 use Rattle.lower_laws.specs.Loops.{count-once}
 use Rattle.roundtrip.specs.Refusals.{reader-gives}
 use Rattle.roundtrip.specs.Sound.{sound}
-use Rattle.theory.specs.Route.{Path, Side, dearest, routeOn, stepCost, boundOf, routeBytes, wayOf}
-use Rattle.theory.specs.Run.{Run, runCost}
-use Rattle.theory.specs.Bound.{run-bound}
-use Rattle.plan.specs.Owed.{CountOf, Owed}
+use Rattle.theory.specs.Route.{Routes, Path, Side, sideOf, routeOn, bothOf, routesOn, stepCost, boundOf, routeBytes, wayOf}
+use Rattle.theory.specs.Run.{Run, runCost, whole}
+use Rattle.theory.specs.Bound.{run-bound, run-least}
+use Rattle.plan.specs.Owed.{CountOf, Owed, Values, weightIn, totalIn, routedValues, bytesNeeded, routedBytes}
+use Rattle.plan.specs.Owed.{routeIn}
 use Rattle.plan.specs.Owed.Owed.{no-form, no-count, counted}
 use Rattle.plan.specs.Accepted.{owed-once}
 use Rattle.plan.specs.Prepared.{Refuses, refusal-owed}
 use Rattle.plan.specs.Prepared.Refuses.{unread, uncounted}
 use Rattle.plan.specs.RouteWords.{range-length}
 
--- the form is accepted, its counter has the count, and weight, bound and bytes are those of the side's first
--- conflict-free route of the preferred weight
-pub record Answered (side : Body → Side) (form lent held : List ℕ) (iterations weight bound : ℕ) : Type 0 where
+-- the two sides of a form's body
+abbrev pub sidesOf : (form : List ℕ) → Choice → Side
+sidesOf form = sideOf (bodyOf form)
+
+-- the form is accepted, its counter has the count, and of each choice weight and total are those of its side's first
+-- conflict-free route of the preferred weight; both routes' bytes are in what was lent
+pub record Answered (form lent : List ℕ) (x : Values) (held : List ℕ) : Type 0 where
   pub accepted : judge form ≡ Accepted
-  pub counts : CountOf (bodyOf form .counter) iterations
-  pub route : ℕ × Path
-  pub best : routeOn (bodyOf form) (side (bodyOf form)) ≡ some route
-  pub weight-is : weight ≡ route .0
-  pub bound-is : bound ≡ boundOf iterations weight
-  pub bytes : held ≡ routeBytes (bodyOf form) (route .1) ++ drop (bodyOf form .count) lent
+  pub counts : CountOf (bodyOf form .counter) (x .iterations)
+  pub routes : Routes
+  pub best : (choice : Choice) → routeOn (bodyOf form) (sidesOf form choice) ≡ some (chosen choice routes)
+  pub weight-is : (choice : Choice) → weightIn choice x ≡ chosen choice routes .0
+  pub total-is : (choice : Choice) → totalIn choice x ≡ boundOf (x .iterations) (weightIn choice x)
+  pub bytes : held ≡ routedBytes (bodyOf form) routes lent
 
--- ---- soundness: no run of at most count iterations costs more than the bound
+-- where there are both, there is each
+both-out : {A : Type 0} (o p : Option A) (v : A × A) → bothOf o p ≡ some v → (o ≡ some (v .0)) × (p ≡ some (v .1))
+both-out none p v e = let z : _≡_ {A = ℕ} 0 1 = cc in absurd (omega arith)
+both-out (some x) none v e = let z : _≡_ {A = ℕ} 0 1 = cc in absurd (omega arith)
+both-out (some x) (some y) v e =
+    let same : (x, y) ≡ v = cc in
+    (ap (λ (u : _ × _). some (u .0)) same, ap (λ (u : _ × _). some (u .1)) same)
 
-pub answered-sound : (form lent held : List ℕ) (iterations weight bound : ℕ)
-    → Answered dearest form lent held iterations weight bound
-    → {l : List (Path × ℕ)} → Run (bodyOf form) l → length l ≤ iterations
-    → runCost (bodyOf form) (stepCost (bodyOf form)) l ≤ bound
-answered-sound form lent held iterations weight bound a r n =
-    let body = bodyOf form in
-    rw (a .bound-is, a .weight-is)
-    (run-bound body (sound form (a .accepted)) (stepCost body) (λ b way. omega arith) (a .route)
-    (a .best) iterations r n)
+-- from the routes, and the values and bytes made of them
+pub answered-by : (form lent held : List ℕ) (x : Values) (k keptOrWalked : ℕ) (v : Routes) → judge form ≡ Accepted
+    → CountOf (bodyOf form .counter) k → routesOn (bodyOf form) (sidesOf form) ≡ some v
+    → x ≡ routedValues k v keptOrWalked → held ≡ routedBytes (bodyOf form) v lent → Answered form lent x held
+answered-by form lent held x k keptOrWalked v a c q e b = record {
+  accepted = a;
+  counts = subst (CountOf (bodyOf form .counter)) (sym (ap (λ (y : Values). y .iterations) e)) c;
+  routes = v;
+  best = best;
+  weight-is = λ choice. ap (weightIn choice) e ∙ weight choice;
+  total-is = λ choice. subst (λ (y : Values). totalIn choice y ≡ boundOf (y .iterations) (weightIn choice y)) (sym e)
+      (total choice);
+  bytes = b;
+}
+  where
+    each : (routeOn (bodyOf form) (sidesOf form heaviest) ≡ some (v .0))
+        × (routeOn (bodyOf form) (sidesOf form lightest) ≡ some (v .1))
+    each = both-out (routeOn (bodyOf form) (sidesOf form heaviest)) (routeOn (bodyOf form) (sidesOf form lightest)) v q
 
--- ---- agreement
+    best : (choice : Choice) → routeOn (bodyOf form) (sidesOf form choice) ≡ some (chosen choice v)
+    best false = each .0
+    best true = each .1
 
--- same count, weight and bound, and the same route in the bytes lent to each
-pub record Agree (form : List ℕ) (i w n i′ w′ n′ : ℕ) (held held′ : List ℕ) : Type 0 where
-  pub iterations : i ≡ i′
-  pub weight : w ≡ w′
-  pub bound : n ≡ n′
-  pub route : take (bodyOf form .count) held ≡ take (bodyOf form .count) held′
+    weight : (choice : Choice) → weightIn choice (routedValues k v keptOrWalked) ≡ chosen choice v .0
+    weight false = refl
+    weight true = refl
+
+    total : (choice : Choice) → totalIn choice (routedValues k v keptOrWalked)
+        ≡ boundOf k (weightIn choice (routedValues k v keptOrWalked))
+    total false = refl
+    total true = refl
+
+-- ---- soundness, above and below, over the same runs
+
+-- no run of at most so many iterations as the answer has costs more than its bound; no run of just so many, none left
+-- early, costs less than its least total
+pub record Bounds (form : List ℕ) (x : Values) : Type 0 where
+  pub most : {l : List (Path × ℕ)} → Run (bodyOf form) l → length l ≤ x .iterations
+      → runCost (bodyOf form) (stepCost (bodyOf form)) l ≤ x .bound
+  pub least : {l : List (Path × ℕ)} (r : Run (bodyOf form) l) → whole r ≡ true → length l ≡ x .iterations
+      → x .leastTotal ≤ runCost (bodyOf form) (stepCost (bodyOf form)) l
+
+pub answered-bounds : (form lent : List ℕ) (x : Values) (held : List ℕ) → Answered form lent x held → Bounds form x
+answered-bounds form lent x held a =
+    let body = bodyOf form in record {
+      most = λ r n. rw (a .total-is heaviest, a .weight-is heaviest)
+          (run-bound body (sound form (a .accepted)) (stepCost body) (λ b way. omega arith) (a .routes .0)
+          (a .best heaviest) (x .iterations) r n);
+      least = λ r w n. rw (a .total-is lightest, a .weight-is lightest)
+          (run-least body (sound form (a .accepted)) (stepCost body) (a .routes .1) (a .best lightest)
+          (x .iterations) r w n);
+    }
+
+-- ---- agreement, of each choice
+
+-- same count, weight and total, and the same route in the bytes lent to each
+pub record Agree (choice : Choice) (form : List ℕ) (x y : Values) (held held′ : List ℕ) : Type 0 where
+  pub iterations : x .iterations ≡ y .iterations
+  pub weight : weightIn choice x ≡ weightIn choice y
+  pub total : totalIn choice x ≡ totalIn choice y
+  pub route : routeIn choice (bodyOf form .count) held ≡ routeIn choice (bodyOf form .count) held′
 
 bytes-length : (b : Body) (p : Path) → length (routeBytes b p) ≡ b .count
 unfolding routeBytes
 bytes-length b p =
     length-map (range 0 (b .count)) (λ k. cond (eqb (suc k) (b .count)) 3 (wayOf k p)) ∙ range-length 0 (b .count)
 
-module _ (side : Body → Side) (form : List ℕ) where
-  abbrev body : Body
-  body = bodyOf form
+-- the choice's route in the bytes of both
+pub route-of : (choice : Choice) (body : Body) (v : Routes) (lent : List ℕ)
+    → routeIn choice (body .count) (routedBytes body v lent) ≡ routeBytes body (chosen choice v .1)
+route-of false body v lent =
+    take-at (routeBytes body (v .0 .1)) (routeBytes body (v .1 .1) ++ drop (bytesNeeded body) lent) (body .count)
+    (bytes-length body (v .0 .1))
+route-of true body v lent =
+    ap (take (body .count)) (drop-at (routeBytes body (v .0 .1))
+    (routeBytes body (v .1 .1) ++ drop (bytesNeeded body) lent) (body .count) (bytes-length body (v .0 .1)))
+    ∙ take-at (routeBytes body (v .1 .1)) (drop (bytesNeeded body) lent) (body .count) (bytes-length body (v .1 .1))
 
-  -- the route's bytes at the front of what was lent
-  front : (lent held : List ℕ) (i w n : ℕ) → (a : Answered side form lent held i w n)
-      → take (body .count) held ≡ routeBytes body (a .route .1)
-  front lent held i w n a =
-      ap (take (body .count)) (a .bytes)
-      ∙ take-at (routeBytes body (a .route .1)) (drop (body .count) lent) (body .count)
-      (bytes-length body (a .route .1))
-
-  pub answered-agree : (lent held lent′ held′ : List ℕ) (i w n i′ w′ n′ : ℕ) → Answered side form lent held i w n
-      → Answered side form lent′ held′ i′ w′ n′
-      → Agree form i w n i′ w′ n′ held held′
-  answered-agree lent held lent′ held′ i w n i′ w′ n′ a b =
-      let counter = body .counter in
-      let same : i ≡ i′ =
-      count-once 1 (counter .initial) (counter .step) (counter .relation) (counter .limit) i i′ (a .counts)
-      (b .counts) in
-      let v : a .route ≡ b .route = one (sym (a .best) ∙ b .best) in
-      let heavy : w ≡ w′ = a .weight-is ∙ ap (λ (u : ℕ × Path). u .0) v ∙ sym (b .weight-is) in
-      record {
-        iterations = same;
-        weight = heavy;
-        bound = a .bound-is ∙ (λ t. boundOf (same t) (heavy t)) ∙ sym (b .bound-is);
-        route =
-            front lent held i w n a ∙ ap (λ (u : ℕ × Path). routeBytes body (u .1)) v
-            ∙ sym (front lent′ held′ i′ w′ n′ b);
-      }
-    where
-      one : {u v : ℕ × Path} → some u ≡ some v → u ≡ v
-      one e = cc
+pub answered-agree : (choice : Choice) (form lent lent′ : List ℕ) (x y : Values) (held held′ : List ℕ)
+    → Answered form lent x held → Answered form lent′ y held′ → Agree choice form x y held held′
+answered-agree choice form lent lent′ x y held held′ a b =
+    let body = bodyOf form in
+    let counter = body .counter in
+    let same : x .iterations ≡ y .iterations =
+    count-once 1 (counter .initial) (counter .step) (counter .relation) (counter .limit) (x .iterations)
+    (y .iterations) (a .counts) (b .counts) in
+    let v : chosen choice (a .routes) ≡ chosen choice (b .routes) = one (sym (a .best choice) ∙ b .best choice) in
+    let weighs : weightIn choice x ≡ weightIn choice y =
+    a .weight-is choice ∙ ap (λ (u : ℕ × Path). u .0) v ∙ sym (b .weight-is choice) in
+    record {
+      iterations = same;
+      weight = weighs;
+      total = a .total-is choice ∙ (λ t. boundOf (same t) (weighs t)) ∙ sym (b .total-is choice);
+      route =
+          ap (routeIn choice (body .count)) (a .bytes) ∙ route-of choice body (a .routes) lent
+          ∙ ap (λ (u : ℕ × Path). routeBytes body (u .1)) v
+          ∙ sym (ap (routeIn choice (body .count)) (b .bytes) ∙ route-of choice body (b .routes) lent′);
+    }
+  where
+    one : {u v : ℕ × Path} → some u ≡ some v → u ≡ v
+    one e = cc
 
 -- ---- what a call owes, by the number and place in its outcome
 

@@ -1,5 +1,6 @@
 //! The generator: what its inputs are met by, and facts that must hold of the answers to all of them.
 
+use std::cmp::Reverse;
 use std::collections::{BTreeMap, HashSet};
 
 use by_listing::calls::{conflicts, sweep, walk, NoAnswer, MOST_WAYS};
@@ -7,7 +8,9 @@ use by_listing::conflict::{conflict_list, events, has_conflict, Entry, Happening
 use by_listing::form::{read, write, Body, GO, MOST_BLOCKS, OPEN, TEST};
 use by_listing::generate::{generate, mixed, mixed_accepted, Kind, KINDS};
 use by_listing::report::LONGEST_LIST;
-use by_listing::rows::{row, RowEntry};
+use by_listing::routes::{routes, Route};
+use by_listing::rows::{row, OpenSet, RowEntry, Tail};
+use by_listing::shapes::{note_routes, note_rows};
 use by_listing::tally::{Met, Tally};
 use by_listing::ways::{for_each_way, left_by, ways_to_list, weight, Step, Way};
 
@@ -105,8 +108,10 @@ fn bodies(tally: &mut Tally) {
         note_shape(&mut met, kind, &body);
         check_list(tally, &body, &form, &what);
         check_routes(tally, &mut met, &body, &form, &what);
+        note_routes(&mut met, &body);
+        note_rows(&mut met, &body, &conflict_list(&body));
         let mut table = vec![RowEntry::default(); 64 * MOST_BLOCKS];
-        match sweep(&form, &mut table, &mut [0; MOST_BLOCKS]) {
+        match sweep(&form, &mut table, &mut [0; 2 * MOST_BLOCKS]) {
             Ok(answer) => {
                 *answers.entry(0).or_default() += 1;
                 *lengths_of_rows.entry(answer.kept).or_default() += 1;
@@ -148,8 +153,10 @@ fn note_shape(met: &mut Met, kind: Kind, body: &Body) {
     met.note("two effects of a block on a variable", (0..body.block_count).any(|block| sets_twice(body, block)));
     met.note("one block", body.block_count == 1);
     met.note("nine blocks", body.block_count == 9);
-    met.note("10 to 24 blocks", (10..=24).contains(&body.block_count));
-    met.note("more than 24 blocks", body.block_count > 24);
+    met.note("10 to 15 blocks", (10..16).contains(&body.block_count));
+    met.note("16 blocks", body.block_count == 16);
+    met.note("17 blocks", body.block_count == 17);
+    met.note("more than 17 blocks", body.block_count > 17);
     met.note("a small body", kind == Kind::Small);
 }
 
@@ -186,42 +193,44 @@ fn stands_on(body: &Body, way: &[Step], entry: &Entry) -> bool {
         && !way[first + 1..=second].iter().any(has_effect)
 }
 
-/// Walked and the heaviest route once more, with all beginnings and all routes held at once.
+/// Walked, the heaviest and the lightest route once more, with all beginnings and all routes held at once.
 fn check_routes(tally: &mut Tally, met: &mut Met, body: &Body, form: &[u8], what: &str) {
     let mut beginnings: HashSet<Vec<Step>> = HashSet::new();
-    let mut routes: Vec<Vec<Step>> = Vec::new();
+    let mut ways: Vec<Vec<Step>> = Vec::new();
     for_each_way(body, 0, |way, _| {
-        routes.push(way.to_vec());
+        ways.push(way.to_vec());
         for arrival in 0..way.len() {
             let mut beginning = way[..=arrival].to_vec();
             beginning[arrival].left = None;
             beginnings.insert(beginning);
         }
     });
-    tally
-        .check(routes.windows(2).all(|two| comes_before(&two[0], &two[1])), || format!("{what}: the ways' order"));
+    tally.check(ways.windows(2).all(|two| comes_before(&two[0], &two[1])), || format!("{what}: the ways' order"));
     let free = |way: &[Step]| !has_conflict(&events(body, way));
     let walked = beginnings.iter().filter(|beginning| free(beginning)).count() as u64;
-    let all = routes.len();
-    routes.retain(|route| free(route));
-    let heaviest = routes.iter().map(|route| weight(body, route)).max().expect("some route is conflict-free");
-    routes.retain(|route| weight(body, route) == heaviest);
-    let first = routes.iter().min_by(|one, other| way_order(one).cmp(&way_order(other))).unwrap();
-    met.note("routes that tie", routes.len() > 1);
+    let all = ways.len();
+    ways.retain(|way| free(way));
+    // The heaviest last, and of equal weights the first last: then the last is the heaviest. Likewise the lightest.
+    ways.sort_by_key(|way| (weight(body, way), Reverse(way_order(way))));
+    let heaviest = ways.last().expect("some route is conflict-free").clone();
+    ways.sort_by_key(|way| (Reverse(weight(body, way)), Reverse(way_order(way))));
+    let lightest = ways.last().expect("some route is conflict-free").clone();
     met.note("routes struck out", beginnings.len() as u64 > walked && all > 1);
-    met.note("an effect between", has_an_effect_between(body, first));
+    met.note("an effect between", has_an_effect_between(body, &heaviest));
 
-    let mut route = [0; MOST_BLOCKS];
-    match walk(form, walked as u32, &mut route) {
+    let mut bytes = [0; 2 * MOST_BLOCKS];
+    match walk(form, walked as u32, &mut bytes) {
         Ok(answer) => {
-            tally.equal(what, (answer.walked, answer.weight), (walked, heaviest));
-            tally.equal(what, answer.bound, answer.count * heaviest);
-            let jumped =
-                (0..MOST_BLOCKS).filter(|block| route[*block] == 1).map(|block| 1u64 << block).sum::<u64>();
-            let fell = (0..MOST_BLOCKS).filter(|block| route[*block] == 2).map(|block| 1u64 << block).sum::<u64>();
-            tally.equal(what, (jumped, fell), (left_by(Way::Jump, first), left_by(Way::Fall, first)));
-            tally.equal(what, route[body.last()], 3);
-            let over = walk(form, walked as u32 - 1, &mut route).err();
+            let (weight, least) = (weight(body, &heaviest), weight(body, &lightest));
+            tally.equal(what, (answer.walked, answer.weight, answer.least), (walked, weight, least));
+            tally.equal(what, answer.bound, answer.count * weight);
+            tally.equal(what, answer.least_total, answer.count * least);
+            for (bytes, route) in bytes.chunks(body.block_count).zip([&heaviest, &lightest]) {
+                tally.equal(what, left_so(1, bytes), left_by(Way::Jump, route));
+                tally.equal(what, left_so(2, bytes), left_by(Way::Fall, route));
+                tally.equal(what, left_so(3, bytes), 1 << body.last());
+            }
+            let over = walk(form, walked as u32 - 1, &mut bytes).err();
             tally.check(matches!(over, Some(NoAnswer::Refused(refusal)) if refusal.number == 41), || {
                 what.to_string()
             });
@@ -229,6 +238,11 @@ fn check_routes(tally: &mut Tally, met: &mut Met, body: &Body, form: &[u8], what
         Err(NoAnswer::Refused(refusal)) => tally.equal(what, (refusal.number, refusal.place), (20, 0)),
         Err(NoAnswer::TooManyWays) => tally.check(false, || format!("{what} has too many ways")),
     }
+}
+
+/// The blocks with this byte, as a set.
+fn left_so(byte: u8, bytes: &[u8]) -> u64 {
+    (0..bytes.len()).filter(|block| bytes[*block] == byte).map(|block| 1u64 << block).sum()
 }
 
 /// Where two ways part, jump comes before fall.
@@ -256,17 +270,17 @@ fn has_an_effect_between(body: &Body, way: &[Step]) -> bool {
     })
 }
 
-/// Nothing stands below block 0, so its row has one entry: the first heaviest route.
+/// Nothing stands below block 0, so its row has one entry: the first heaviest and the first lightest route.
 fn check_first_row(tally: &mut Tally, body: &Body, what: &str) {
     let entries = row(body, &conflict_list(body), 0);
     tally.equal(what, entries.len(), 1);
-    let route = by_listing::routes::heaviest_route(body).expect("some route is conflict-free");
-    let wanted = RowEntry {
-        jump_set: 0,
-        fall_set: 0,
+    let found = routes(body).expect("some route is conflict-free");
+    let tail = |route: &Route| Tail {
         weight: route.weight,
         left_by_jump: left_by(Way::Jump, &route.steps),
         left_by_fall: left_by(Way::Fall, &route.steps),
     };
+    let open = OpenSet::default();
+    let wanted = RowEntry { open, heaviest: tail(&found.heaviest), lightest: tail(&found.lightest) };
     tally.equal(what, entries[0], wanted);
 }

@@ -11,6 +11,7 @@ mod walks;
 use std::process::ExitCode;
 
 use by_listing::form::{parts_bytes, Counter, Parts};
+use by_listing::rows::RowEntry;
 use by_listing::tally::Tally;
 
 fn main() -> ExitCode {
@@ -27,6 +28,13 @@ fn main() -> ExitCode {
 /// A counter with three iterations.
 fn three_iterations() -> Counter {
     Counter { initial: 0, step: 1, relation: by_listing::conflict::LESS, limit: 3 }
+}
+
+/// The entry of a set of open edges with one tail, which is the heaviest and the lightest: jump set, fall set, weight, set
+/// left by jump or go, set left by fall.
+fn one_tail(words: &[u64; 5]) -> RowEntry {
+    let [jumps, falls, weight, jumped, fallen] = *words;
+    RowEntry::of_words([jumps, falls, weight, jumped, fallen, weight, jumped, fallen])
 }
 
 /// The form of a body with three iterations.

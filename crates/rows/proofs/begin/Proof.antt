@@ -6,6 +6,7 @@ use native.Mathlib.Numerals.{add-one}
 use native.Mathlib.Omega.{arith}
 use lib.ListN.{length}
 use Rattle.theory.specs.Edges.{noEdges}
+use Rattle.theory.specs.SweepWords.{Words}
 use Rattle.entries.specs.Entries.{entryPut}
 use Rattle.rows.specs.Begun.{zero-length, Holds, begunWith, begun-last, begun-other}
 use borrow.Author.Needs.{needs}
@@ -22,7 +23,8 @@ returns c =
     let start = cost .before .before .before .before in
     let a = start .args in
     subst (λ (row : List ℕ). Holds (begunWith (a .plan .now) (a .count) (a .b)) row 1)
-    (sym (put .put-entry .ensures ∙ (λ i. entryPut (start .pre .1 .1 i) 0 (noEdges, (cost .cost .ensures i, (0, 0))))))
+    (sym (put .put-entry .ensures ∙ λ i. let way : Words = (cost .cost .ensures i, (0, 0)) in
+    entryPut (start .pre .1 .1 i) 0 (noEdges, (way, way))))
     (begun-last (a .plan .now) (a .count) (a .b) (sym (add-one (a .b)) ∙ cost .before .if1 .taken))
 
 returns-2 : tie.Need-returns-2

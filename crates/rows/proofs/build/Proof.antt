@@ -5,6 +5,7 @@ use mathlib.Core.Path.{_≡_, sym, ap, subst, _∙_}
 use Prim.Native.Nat.{ℕ, _+_, _-_, _^_, _≤_, _<_}
 use native.Mathlib.Omega.{arith}
 use lib.ListN.{length}
+use Rattle.laws.specs.Terms.{Choice, heaviest, lightest, chosen}
 use Rattle.entries.specs.declared.Entry.{Entry}
 use Rattle.entries.specs.Entries.{entryAt, entriesFrom, Grown}
 use Rattle.entries.specs.Structs.{tupleOf}
@@ -44,21 +45,21 @@ inside c =
     let few = many-few (a .plan .now) (a .b) (a .tails) (a .first .now) (a .second .now) (start c .pre .0) way in
     omega (arith, c .loop-test .taken, c .before .before .many-of .ensures, few)
 
--- its weight with the cost fits
-light : (c : tie.After-tail-of Inv-loop μ-loop Inv-ways μ-ways)
-    → c .before .before .before .before .cost .result + c .tail-of .result .way .weight < 2 ^ 64
-light c =
+-- its weight with the cost fits, of each choice
+light : (choice : Choice) (c : tie.After-tail-of Inv-loop μ-loop Inv-ways μ-ways)
+    → c .before .before .before .before .cost .result + chosen choice (tupleOf (c .tail-of .result) .1) .0 < 2 ^ 64
+light choice c =
     let turn = c .before in
     let way = turn .before .before .before .before .before .before .before .ways .way in
     let a = start turn .args in
-    subst (λ (e : Entry). c .before .before .before .before .cost .result + e .way .weight < 2 ^ 64)
+    subst (λ (e : Entry). c .before .before .before .before .cost .result + chosen choice (tupleOf e .1) .0 < 2 ^ 64)
     (sym (c .tail-of .ensures))
-    (subst (λ (n : ℕ). n + entryAt (sourceOf (a .first .now) (a .second .now) way)
-    (turn .before .loop .i) .1 .0 < 2 ^ 64) (sym (c .before .before .before .before .cost .ensures))
-    (start turn .pre .0 .light way (turn .before .loop .i) (inside turn .0)))
+    (subst (λ (n : ℕ). n + chosen choice (entryAt (sourceOf (a .first .now) (a .second .now) way)
+    (turn .before .loop .i) .1) .0 < 2 ^ 64) (sym (c .before .before .before .before .cost .ensures))
+    (start turn .pre .0 .light choice way (turn .before .loop .i) (inside turn .0)))
 
 -- after the call in it: the row is as long as before, and has the tail
-new-size : (c : tie.After-add-tail Inv-loop μ-loop Inv-ways μ-ways) → length (c .add-tail .last .1 .1 .1 .1 .0) ≡ 320
+new-size : (c : tie.After-add-tail Inv-loop μ-loop Inv-ways μ-ways) → length (c .add-tail .last .1 .1 .1 .1 .0) ≡ 512
 new-size c = c .add-tail .kept .1 .1 .1 .1 .0 ∙ c .before .before .before .before .loop .inv .0 .size
 
 grown : (c : tie.After-add-tail Inv-loop μ-loop Inv-ways μ-ways)
@@ -66,14 +67,14 @@ grown : (c : tie.After-add-tail Inv-loop μ-loop Inv-ways μ-ways)
     let costed = turn .before .before .before in
     let a = start turn .args in
     let way = costed .before .before .before .before .ways .way in
-    Grown (pushed (costed .before .before .side-of .result) (costed .before .side-of2 .result) (costed .cost .result)
+    Grown (pushed (costed .before .before .half-of .result) (costed .before .half-of2 .result) (costed .cost .result)
     (entryAt (sourceOf (a .first .now) (a .second .now) way) (turn .before .loop .i))
     (entriesFrom (turn .before .loop .row) 0 (turn .before .loop .held)))
     (turn .before .loop .row) (c .add-tail .last .1 .1 .1 .1 .0) (c .add-tail .result))
 grown c =
     let turn = c .before .before .before in
     let costed = turn .before .before .before in
-    subst (λ (e : Entry). Grown (pushed (costed .before .before .side-of .result) (costed .before .side-of2 .result)
+    subst (λ (e : Entry). Grown (pushed (costed .before .before .half-of .result) (costed .before .half-of2 .result)
     (costed .cost .result) (tupleOf e) (entriesFrom (turn .before .loop .row) 0 (turn .before .loop .held)))
     (turn .before .loop .row) (c .add-tail .last .1 .1 .1 .1 .0) (c .add-tail .result))
     (c .before .before .tail-of .ensures) (c .add-tail .ensures)
@@ -82,12 +83,12 @@ ways-holds : tie.Need-ways-holds Inv-loop μ-loop Inv-ways μ-ways
 ways-holds c = let start = c .before .before .before .before in
     (filling-start _ _ _ (start .pre .1 .1) (start .pre .1 .0), omega arith)
 
-side-of-requires : tie.Need-side-of-requires Inv-loop μ-loop Inv-ways μ-ways
-side-of-requires c κs = let ready = c .before .before .before .before .before .before .pre .0 in omega
+half-of-requires : tie.Need-half-of-requires Inv-loop μ-loop Inv-ways μ-ways
+half-of-requires c κs = let ready = c .before .before .before .before .before .before .pre .0 in omega
     (arith, ready .size, ready .below)
 
-side-of-requires-2 : tie.Need-side-of-requires-2 Inv-loop μ-loop Inv-ways μ-ways
-side-of-requires-2 c κs = let ready = c .before .before .before .before .before .before .before .pre .0 in omega
+half-of-requires-2 : tie.Need-half-of-requires-2 Inv-loop μ-loop Inv-ways μ-ways
+half-of-requires-2 c κs = let ready = c .before .before .before .before .before .before .before .pre .0 in omega
     (arith, ready .size, ready .below)
 
 cost-requires : tie.Need-cost-requires Inv-loop μ-loop Inv-ways μ-ways
@@ -102,7 +103,7 @@ loop-holds c =
     let costed = c .before in
     let at-ways = costed .before .before .before .before in
     let a = at-ways .before .before .before .before .before .args in (
-      at-first (costed .before .before .side-of .result) (costed .before .side-of2 .result) (costed .cost .result)
+      at-first (costed .before .before .half-of .result) (costed .before .half-of2 .result) (costed .cost .result)
           (sourceOf (a .first .now) (a .second .now) (at-ways .ways .way)) (c .many-of .result)
           (at-ways .ways .row) (at-ways .ways .held) (at-ways .ways .inv .0 .few) (at-ways .ways .inv .0 .size),
       omega arith,
@@ -114,7 +115,7 @@ tail-of-requires c κs = let ready = start c .pre .0 in (ready .first-size, (rea
 add-tail-requires : tie.Need-add-tail-requires Inv-loop μ-loop Inv-ways μ-ways
 add-tail-requires c κs =
     let tail = c .before in
-    let f = tail .before .before .loop .inv .0 in ((f .size, f .few), light tail)
+    let f = tail .before .before .loop .inv .0 in ((f .size, f .few), (light heaviest tail, light lightest tail))
 
 loop-again : tie.Need-loop-again Inv-loop μ-loop Inv-ways μ-ways
 loop-again c =
@@ -125,7 +126,7 @@ loop-again c =
     let costed = many .before in
     let at-ways = costed .before .before .before .before in
     let a = at-ways .before .before .before .before .before .args in (
-      at-next (costed .before .before .side-of .result) (costed .before .side-of2 .result) (costed .cost .result)
+      at-next (costed .before .before .half-of .result) (costed .before .half-of2 .result) (costed .cost .result)
           (sourceOf (a .first .now) (a .second .now) (at-ways .ways .way)) (many .many-of .result)
           _ _ (at-loop .loop .row) (at-loop .loop .held) (at-loop .loop .i) (at-loop .loop .inv .0)
           (turn .loop-test .taken) _ (added .add-tail .result) (grown added) (new-size added) (c .if1 .left),
@@ -141,14 +142,14 @@ ways-again c =
     let a = at-ways .before .before .before .before .before .args in
     let f = at-loop .loop .inv .0 in (
       way-next (a .plan .now) (a .b) (tailsBy (a .tails) (a .first .now) (a .second .now)) (at-ways .ways .way)
-          (costed .cost .result) (costed .before .before .side-of .result) (costed .before .side-of2 .result)
+          (costed .cost .result) (costed .before .before .half-of .result) (costed .before .half-of2 .result)
           (entriesFrom (sourceOf (a .first .now) (a .second .now) (at-ways .ways .way)) 0 (many .many-of .result))
-          (costed .before .before .side-of .ensures) (costed .before .side-of2 .ensures) (costed .cost .ensures)
+          (costed .before .before .half-of .ensures) (costed .before .half-of2 .ensures) (costed .cost .ensures)
           (ap (entriesFrom (sourceOf (a .first .now) (a .second .now) (at-ways .ways .way)) 0)
           (many .many-of .ensures)) (at-ways .ways .inv .1 .0, costed .before .before .before .ways-test .taken)
           _ _ (at-ways .ways .row) (at-ways .ways .held) (at-ways .ways .inv .0) (at-loop .loop .row)
           (at-loop .loop .held)
-          (at-last (costed .before .before .side-of .result) (costed .before .side-of2 .result) (costed .cost .result)
+          (at-last (costed .before .before .half-of .result) (costed .before .half-of2 .result) (costed .cost .result)
           (sourceOf (a .first .now) (a .second .now) (at-ways .ways .way)) (many .many-of .result)
           _ _ (at-loop .loop .row) (at-loop .loop .held) (at-loop .loop .i) (c .loop-test .left) f) (f .size) (f .few),
       omega arith,
@@ -181,13 +182,13 @@ returns-2 c =
     grown-past _ _ _ (added .add-tail .result) (start turn .pre .1 .0) (new-size added)
     (added .add-tail .ensures .most) (c .if1 .taken)
     (way-over (a .plan .now) (a .b) (tailsBy (a .tails) (a .first .now) (a .second .now)) (at-ways .ways .way)
-    (costed .cost .result) (costed .before .before .side-of .result) (costed .before .side-of2 .result)
+    (costed .cost .result) (costed .before .before .half-of .result) (costed .before .half-of2 .result)
     (entriesFrom (sourceOf (a .first .now) (a .second .now) (at-ways .ways .way)) 0 (many .many-of .result))
-    (costed .before .before .side-of .ensures) (costed .before .side-of2 .ensures) (costed .cost .ensures)
+    (costed .before .before .half-of .ensures) (costed .before .half-of2 .ensures) (costed .cost .ensures)
     (ap (entriesFrom (sourceOf (a .first .now) (a .second .now) (at-ways .ways .way)) 0) (many .many-of .ensures))
     (at-ways .ways .inv .1 .0, costed .before .before .before .ways-test .taken)
     _ _ (at-ways .ways .row) (at-ways .ways .held) (at-ways .ways .inv .0)
-    (at-over (costed .before .before .side-of .result) (costed .before .side-of2 .result) (costed .cost .result)
+    (at-over (costed .before .before .half-of .result) (costed .before .half-of2 .result) (costed .cost .result)
     (sourceOf (a .first .now) (a .second .now) (at-ways .ways .way)) (many .many-of .result)
     _ _ (at-loop .loop .row) (at-loop .loop .held) (at-loop .loop .i) (at-loop .loop .inv .0)
     (turn .loop-test .taken) _ (added .add-tail .result) (grown added) (c .if1 .taken)))
@@ -201,8 +202,8 @@ build-spec =
     Inv-ways
     μ-ways
     ways-holds
-    side-of-requires
-    side-of-requires-2
+    half-of-requires
+    half-of-requires-2
     cost-requires
     many-of-requires
     loop-holds

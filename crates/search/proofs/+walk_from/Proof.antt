@@ -10,14 +10,14 @@ use native.Mathlib.Omega.{arith}
 use borrow.Author.Tests.{eq-eqb, ne-eqb}
 use borrow.Fn.Kinds.{In}
 use borrow.Fn.PlainCycle.{Measures, is, falls, and}
-use Rattle.laws.specs.Terms.{heavier}
+use Rattle.laws.specs.Terms.{Choice, preferred}
 use Rattle.theory.specs.Row.{Key}
 use Rattle.theory.specs.Edges.{has}
-use Rattle.theory.specs.Walk.{keepFirst, tally}
+use Rattle.theory.specs.Walk.{keepFirst}
 use Rattle.theory.specs.SweepWords.{Words}
-use Rattle.theory.specs.WalkWords.{finish}
 use Rattle.theory.specs.Plan.{targetAt, costAt, IsWay}
-use Rattle.search.specs.Terms.{Found, bannedAt, routeIn, soFar, tallied, isOpen, Standing, Walks, Took}
+use Rattle.search.specs.Terms.{Found, bannedAt, keptIn, soFar, tallied, counting, isOpen, Standing, Walks}
+use Rattle.search.specs.Terms.{Took}
 use Rattle.search.specs.Terms.Took.{stays}
 use Rattle.theory.specs.PlanWays.{by-jump, by-fall}
 use Rattle.search.specs.Laws.{jump-edge, fall-edge, walks, open-is, took-goes, took-none}
@@ -109,25 +109,25 @@ Open t c way found o =
     isOpen (targetAt (a .plan .now) (a .b) way) (has (here t c) (a .b, way)) (found .0) (a .budget) ≡ o
 
 -- what a way comes to
-abbrev Takes : (t : ℕ) → Inside t → (way : ℕ) → (found r : Found) → Type 0
-Takes t c way found r =
+abbrev Takes : Choice → (t : ℕ) → Inside t → (way : ℕ) → (found r : Found) → Type 0
+Takes choice t c way found r =
     let a = c .before .args in
-    Took heavier (a .plan .now) (a .count) (a .budget) (a .b) way (here t c) (carried t c) found r
+    Took choice (a .plan .now) (a .count) (a .budget) (a .b) way (here t c) (carried t c) found r
 
 -- the block is visited
-abbrev Visits : (t : ℕ) → Inside t → Found → Type 0
-Visits t c r =
+abbrev Visits : Choice → (t : ℕ) → Inside t → Found → Type 0
+Visits choice t c r =
     let a = c .before .args in
-    tallied (a .budget) r
-    ≡ tally heavier (finish (costAt (a .plan .now))) (a .count) (a .budget) (soFar (before t c)) (a .b, carried t c)
+    tallied choice (a .budget) r
+    ≡ counting choice (costAt (a .plan .now)) (a .count) (a .budget) (soFar choice (before t c)) (a .b, carried t c)
 
-turn : (t : ℕ) (c : Inside t) (visited jumped r : Found) → Visits t c visited → Takes t c 1 visited jumped
-    → Takes t c 2 jumped r
+turn : (choice : Choice) (t : ℕ) (c : Inside t) (visited jumped r : Found) → Visits choice t c visited
+    → Takes choice t c 1 visited jumped → Takes choice t c 2 jumped r
     → let a = c .before .args in
-    Walks heavier (a .plan .now) (a .count) (a .budget) (a .b) (a .jumps, a .falls) (carried t c) (before t c) r
-turn t c =
+    Walks choice (a .plan .now) (a .count) (a .budget) (a .b) (a .jumps, a .falls) (carried t c) (before t c) r
+turn choice t c =
     let a = c .before .args in
-    walks heavier (c .before .pre .1 .inside) (a .jumps, a .falls) (here t c) (carried t c) (c .enter .ensures)
+    walks choice (c .before .pre .1 .inside) (a .jumps, a .falls) (here t c) (carried t c) (c .enter .ensures)
     (before t c)
 
 -- what a call at the target asks
@@ -164,23 +164,25 @@ keep-requires t c κs = search needs
 
 -- the last block
 returns : (t : ℕ) → lts.Need-returns (claims t) (at t) walk-from.Post
-returns t c =
+returns t c choice =
     let v = c .before .before .before .before in
     let a = v .before .args in
     let seen : Found = (a .walked + 1, c .keep .last .1 .0) in
     let none = took-none (v .before .pre .1) in
     let last = c .before .before .before .if1 .taken in
-    turn t v seen seen seen
-    (visit-is heavier (costAt (a .plan .now)) (a .count) (a .budget) (a .b) (carried t v) (before t v) seen true
+    turn choice t v seen seen seen
+    (visit-is choice (costAt (a .plan .now)) (a .count) (a .budget) (a .b) (carried t v) (before t v) seen true
     (rw (← add-one (a .b)) (eq-eqb (a .b + 1) (a .count) last)) refl
-    (c .keep .ensures ∙ ap (keepFirst heavier (routeIn (a .best .now))) (c .before .before .step .ensures)))
+    (c .keep .ensures choice
+    ∙ ap (keepFirst (preferred choice) (keptIn choice (a .best .now))) (c .before .before .step .ensures)))
     (none 1 by-jump (here t v) (carried t v) seen last) (none 2 by-fall (here t v) (carried t v) seen last)
 
 -- another
-visited : (t : ℕ) (c : lts.Else1 (claims t) (at t) walk-from.Post) → Visits t (c .before) (first t (c .before))
-visited t c =
+visited : (choice : Choice) (t : ℕ) (c : lts.Else1 (claims t) (at t) walk-from.Post)
+    → Visits choice t (c .before) (first t (c .before))
+visited choice t c =
     let a = c .before .before .args in
-    visit-is heavier (costAt (a .plan .now)) (a .count) (a .budget) (a .b) (carried t (c .before))
+    visit-is choice (costAt (a .plan .now)) (a .count) (a .budget) (a .b) (carried t (c .before))
     (before t (c .before))
     (first t (c .before)) false (rw (← add-one (a .b)) (ne-eqb (a .b + 1) (a .count) (c .if1 .left))) refl refl
 
@@ -216,12 +218,12 @@ walk-from-requires t c κs =
     (first t (jumping t j)) (jump-open t j ∙ c .before .before .before .if2 .taken)
     (c .before .step2 .result .weight) (ap (λ (x : Words). x .0) (c .before .step2 .ensures))
 
-jumped : (t : ℕ) (c : lts.Joined2 (claims t) (at t) walk-from.Post)
-    → Takes t (jumping t (c .before)) 1 (first t (jumping t (c .before))) (c .if2 .seen, c .if2 .best)
-jumped t c =
+jumped : (choice : Choice) (t : ℕ) (c : lts.Joined2 (claims t) (at t) walk-from.Post)
+    → Takes choice t (jumping t (c .before)) 1 (first t (jumping t (c .before))) (c .if2 .seen, c .if2 .best)
+jumped choice t c =
     ⊎-elim
     (λ w. took-goes (jump-open t (c .before) ∙ w .0 .taken) (c .before .before .target .ensures)
-    (w .1 .ensures) (w .2 .ensures) (w .4 .ensures) (λ i. (w .6 i, w .5 i)))
+    (w .1 .ensures) (w .2 .ensures) (w .4 .ensures choice) (λ i. (w .6 i, w .5 i)))
     (λ w. stays (jump-open t (c .before) ∙ w .0 .left) (λ i. (w .2 i, w .1 i)))
     (c .if2 .came)
 
@@ -257,30 +259,32 @@ walk-from-requires-2 t c κs =
     (second t f) (fall-open t f ∙ c .before .before .before .if3 .taken)
     (c .before .step3 .result .weight) (ap (λ (x : Words). x .0) (c .before .step3 .ensures))
 
-fallen : (t : ℕ) (c : lts.After-walk-from2 (claims t) (at t) walk-from.Post)
-    → Takes t (falling t (c .before .before .before .before .before)) 2
+fallen : (choice : Choice) (t : ℕ) (c : lts.After-walk-from2 (claims t) (at t) walk-from.Post)
+    → Takes choice t (falling t (c .before .before .before .before .before)) 2
     (second t (c .before .before .before .before .before))
     (c .walk-from2 .result, c .walk-from2 .last .1 .1 .1 .1 .1 .1 .1 .1 .1 .1 .0)
-fallen t c =
+fallen choice t c =
     took-goes (fall-open t (c .before .before .before .before .before) ∙ c .before .before .before .before .if3 .taken)
     (c .before .before .before .before .before .before .target2 .ensures)
-    (c .before .before .before .bar2 .ensures) (c .before .before .step3 .ensures) (c .walk-from2 .ensures) refl
+    (c .before .before .before .bar2 .ensures) (c .before .before .step3 .ensures) (c .walk-from2 .ensures choice) refl
 
 -- ---- both
 
 returns-2 : (t : ℕ) → lts.Need-returns-2 (claims t) (at t) walk-from.Post
-returns-2 t c =
+returns-2 t c choice =
     let f = c .before .before .before .before .before in
-    turn t (falling t f) (first t (falling t f)) (second t f)
+    turn choice t (falling t f) (first t (falling t f)) (second t f)
     (c .walk-from2 .result, c .walk-from2 .last .1 .1 .1 .1 .1 .1 .1 .1 .1 .1 .0)
-    (visited t (f .before .before .before .before .before .before .before)) (jumped t (f .before .before .before))
-    (fallen t c)
+    (visited choice t (f .before .before .before .before .before .before .before))
+    (jumped choice t (f .before .before .before))
+    (fallen choice t c)
 
 returns-3 : (t : ℕ) → lts.Need-returns-3 (claims t) (at t) walk-from.Post
-returns-3 t c =
+returns-3 t c choice =
     let f = c .before in
-    turn t (falling t f) (first t (falling t f)) (second t f) (second t f)
-    (visited t (f .before .before .before .before .before .before .before)) (jumped t (f .before .before .before))
+    turn choice t (falling t f) (first t (falling t f)) (second t f) (second t f)
+    (visited choice t (f .before .before .before .before .before .before .before))
+    (jumped choice t (f .before .before .before))
     (stays (fall-open t f ∙ c .if3 .left) refl)
 
 pub +walk-from-spec : {M : Type 1} → statement M

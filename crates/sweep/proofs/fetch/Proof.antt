@@ -77,7 +77,7 @@ R = T.the-row
 
 -- the bytes of an entry: all that the walk knows of the width of an entry
 abbrev stride : ℕ
-stride = 40
+stride = 64
 
 -- what is had of each parameter at the exit: the borrows of the table and the row, and of the others nothing
 abbrev stayed : Stays (the-fetch.ended .signature .params) (the-fetch.ended .kept)
@@ -118,7 +118,7 @@ module _ {M : Type 1} (𝓤 : URA M) (H : Heap 𝓤) (A : Atoms 𝓤) (mem : Mem
 module _ {M : Type 1} (𝓤 : URA M) (H : Heap 𝓤) (A : Atoms 𝓤) (W : Given 𝓤 H A) (mem : Memory → SProp 𝓤)
     (run : Routine → Fun 𝓤) (κ κ₁ : Lft) (q q₁ : Share) (b o : ℕ) (γ : GName) (ys : List Entry)
     (start n : ℕ) (b₁ o₁ : ℕ) (γ₁ : GName) (old : List ℕ) (start-fits : start < 2 ^ 64) (n-fits : n < 2 ^ 64)
-    (room : Room R (length ys)) (room₁ : Room u64 (length old)) (few : n ≤ 64) (size-is : length old ≡ 320)
+    (room : Room R (length ys)) (room₁ : Room u64 (length old)) (few : n ≤ 64) (size-is : length old ≡ 512)
     (inside : (k : ℕ) → k < n → start + k < length ys) where
   abbrev x : RefT (List Entry)
   x = record { ptr = (b, o); name = γ; now = ys }
@@ -189,7 +189,7 @@ module _ {M : Type 1} (𝓤 : URA M) (H : Heap 𝓤) (A : Atoms 𝓤) (W : Given
 
   -- the row, lent again for the lifetime ν, under the name δ; what `put_entry`'s triple binds outside, and that the
   -- caller has what it asks
-  asked : (k : ℕ) → k < n → 5 * suc k ≤ length (after k)
+  asked : (k : ℕ) → k < n → 8 * suc k ≤ length (after k)
   asked k small = omega (arith, small, few, after-length k, size-is)
 
   abbrev Lent : ℕ → ℕ → GName → Fml
@@ -424,7 +424,7 @@ module _ {M : Type 1} (𝓤 : URA M) (H : Heap 𝓤) (A : Atoms 𝓤) (W : Given
           (uint-tells w64, (mut-slice-tells (named 1) (κs .1 .0) u64, tt)),
         ),
       ))
-      (λ κs qs bounds a g are. needs 𝓤 (((a .1 .1 .0 ≤ 64) × (length (a .1 .1 .1 .0 .now) ≡ 320)) ×
+      (λ κs qs bounds a g are. needs 𝓤 (((a .1 .1 .0 ≤ 64) × (length (a .1 .1 .1 .0 .now) ≡ 512)) ×
       ((k : ℕ) → k < a .1 .1 .0 → a .1 .0 + k < length (a .0 .now))) _ (λ h.
       walk 𝓤 H A W mem run (κs .0) (κs .1 .0) (qs .0) (qs .1 .0) (a .0 .ptr .0) (a .0 .ptr .1) (a .0 .name) (a .0 .now)
       (a .1 .0) (a .1 .1 .0)

@@ -75,10 +75,10 @@ R = T.the-row
 
 -- the words of a row, and the bytes of an entry: all that the walk knows of the width of an entry
 abbrev size : ℕ
-size = 320
+size = 512
 
 abbrev stride : ℕ
-stride = 40
+stride = 64
 
 -- what is had of each parameter at the exit: the table's borrow, and of the others nothing
 abbrev stayed : Stays (the-store.ended .signature .params) (the-store.ended .kept)
@@ -196,7 +196,7 @@ module _ {M : Type 1} (𝓤 : URA M) (H : Heap 𝓤) (A : Atoms 𝓤) (W : Given
       nothing ! $ owned ! usize (Is usize) (uint-makes 𝓤 H A W w64) k _ (refl, omega (arith, small, n-fits)) $
       fjoin ! $ move ! (1 ∷ 0 ∷ []) $ fjoin ! $ done !
     where
-      asked : (k : ℕ) → k < n → 5 * suc k ≤ length ws
+      asked : (k : ℕ) → k < n → 8 * suc k ≤ length ws
       asked k small = omega (arith, small, few, ws-length)
 
   module _ (𝓣 : Tables 𝓤 H) (known : Triple 𝓤 (𝓣 .C #entries·entry-at) (EntryAt 𝓤 H A mem run))

@@ -104,7 +104,7 @@ R = T.the-row
 
 -- the words of a row, and of a plan
 abbrev size : ℕ
-size = 320
+size = 512
 
 abbrev plan-size : ℕ
 plan-size = 1024

@@ -72,7 +72,7 @@ abbrev R : RattleType
 R = T.the-row
 
 abbrev size : ℕ
-size = 1536
+size = 1024
 
 abbrev tableTy : Ty
 tableTy = sliceTy (tyRef erased mut (pointee (R .written)))

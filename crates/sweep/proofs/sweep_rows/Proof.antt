@@ -120,7 +120,7 @@ stayed = (
 
 -- the words of a row
 abbrev size : ℕ
-size = 320
+size = 512
 
 abbrev word : Ty
 word = tyInt w64

@@ -9,10 +9,10 @@ use Rattle.sweep_steps.proofs.clear.Statement.{statement}
 use Rattle.sweep_steps.proofs.clear.Tie as tie
 
 abbrev Inv-loop : tie.InvT-loop
-Inv-loop row₀ k₀ row k = ((j : ℕ) → j < k → getD row j 0 ≡ 0) × ((k ≤ 320) × (length row ≡ length row₀))
+Inv-loop row₀ k₀ row k = ((j : ℕ) → j < k → getD row j 0 ≡ 0) × ((k ≤ 512) × (length row ≡ length row₀))
 
 abbrev μ-loop : tie.MeasureT-loop
-μ-loop row₀ k₀ row k = 320 - k
+μ-loop row₀ k₀ row k = 512 - k
 
 loop-holds : tie.Need-loop-holds Inv-loop μ-loop
 loop-holds c = (λ j h. omega (arith, h), (omega arith, omega arith))
@@ -31,7 +31,7 @@ same-length c = c .before .loop .inv .1 .1
 returns : tie.Need-returns Inv-loop μ-loop
 returns c =
     let l = c .before .loop in
-    zeros-all (l .row) 320 (l .inv .1 .1 ∙ c .before .before .pre)
+    zeros-all (l .row) 512 (l .inv .1 .1 ∙ c .before .before .pre)
     (λ j h. l .inv .0 j (omega (arith, h, c .loop-test .left)))
 
 pub clear-spec : {M : Type 1} → statement M

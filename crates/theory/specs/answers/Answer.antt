@@ -14,7 +14,7 @@ use borrow.Author.Tests.{eqb-true}
 use lib.Dec.{eqb, ltb}
 use lib.ListN.{length, length-map}
 use Rattle.laws.specs.Terms.{Mem, only, each}
-use Rattle.laws.specs.Orders.{Order, Choice, pair-order, ltb-order}
+use Rattle.laws.specs.Orders.{Order, Preference, pair-order, ltb-order}
 use Rattle.laws.specs.Lists.{only-out, only-same, only-swap, only-map, map-same, each-same, map-in, map-out}
 use Rattle.laws.specs.Rows.{put}
 use Rattle.form.specs.declared.Body.{Body}
@@ -90,7 +90,7 @@ module _ (body : Body) (w : Onward body) {ruledOut : Path → Bool} {opens : ℕ
   up : Forward sweeping
   up = record { on = w .above; inside = w .inside }
 
-  module _ (prefers : ℕ → ℕ → Bool) (ch : Choice prefers) where
+  module _ (prefers : ℕ → ℕ → Bool) (ch : Preference prefers) where
     -- the row built from the rows above is the row by definition
     pub sweep-row : (R : ℕ → List (Key × Val)) (b : ℕ) → b < body .count
         → ((t : ℕ) → b < t → t < body .count → R t ≡ rowOf keyBefore prefers (openTailsBy body ruledOut opens cost t))
@@ -181,7 +181,7 @@ module _ (body : Body) {ruledOut : Path → Bool} {opens : ℕ → Path → Key}
         ends-last b e = omega arith
 
     -- over the budget, or the number of beginnings that are not ruled out and the first best of what the routes give
-    pub walk-routes : (prefers : ℕ → ℕ → Bool) → Choice prefers → (budget : ℕ)
+    pub walk-routes : (prefers : ℕ → ℕ → Bool) → Preference prefers → (budget : ℕ)
         → walk walking advance (tally prefers finish (body .count) budget) (body .count) 0 (W .start) c (0, none)
         ≡ within budget (walkedBy body ruledOut)
         (best prefers (map (λ p. finish (lastBlock body, carry advance c p)) (tailsBy body ruledOut 0)))

@@ -1,17 +1,19 @@
 -- The best of a list: it is one of the list, it is there where the list is not empty, and none of the list is preferred
--- to it. So a route that is found leads from block 0 to the last. Rests on Route, Ways and Passes.
-use mathlib.Core.Path.{_≡_, refl, sym, subst}
+-- to it. So a route that is found leads from block 0 to the last, and a side has a route where there is any route.
+-- Rests on Route, Ways and Passes.
+use mathlib.Core.Path.{_≡_, refl, ap, sym, subst}
 use mathlib.Core.Bool.{Bool, true, false, not, cond}
 use mathlib.Core.Logic.{_⊎_, inl, inr}
 use mathlib.Core.List.{List, [], _∷_, map}
 use mathlib.Core.Option.{Option, none, some}
 use Prim.Native.Nat.{ℕ}
 use native.Mathlib.Omega.{arith}
-use Rattle.laws.specs.Terms.{Mem}
-use Rattle.laws.specs.Orders.{Choice, asym, ntrans}
+use Rattle.laws.specs.Terms.{Choice, heaviest, lightest, Mem}
+use Rattle.laws.specs.Orders.{Preference, asym, ntrans}
 use Rattle.laws.specs.Lists.{map-out, only-out}
 use Rattle.form.specs.declared.Body.{Body}
-use Rattle.theory.specs.Route.{Path, lastBlock, conflict, paths, tails, weight, weighed, choose, best, bestRoute}
+use Rattle.theory.specs.Route.{Path, Side, lastBlock, conflict, paths, tails, routes, weight, weighed, choose, best}
+use Rattle.theory.specs.Route.{bestRoute, routeOn, bothOf, routesOn}
 use Rattle.theory.specs.pairs.Steps.{Leads}
 use Rattle.theory.specs.machines.Passes.{paths-lead}
 use Rattle.theory.specs.answers.Ways.{tailsBy, bestBy}
@@ -42,7 +44,7 @@ module _ {B : Type 0} (prefers : ℕ → ℕ → Bool) where
   unfolding best
   best-some (y ∷ l) x m = one-chosen y (best prefers l)
 
-  module _ (ch : Choice prefers) where
+  module _ (ch : Preference prefers) where
     -- neither is preferred to the chosen one
     chosen : (x : ℕ × B) (o : Option (ℕ × B)) (v : ℕ × B) → choose prefers x o ≡ some v
         → (prefers (x .0) (v .0) ≡ false) × ((u : ℕ × B) → o ≡ some u → prefers (u .0) (v .0) ≡ false)
@@ -85,3 +87,34 @@ module _ (body : Body) where
       → Leads body 0 (v .1) (lastBlock body) × (v .0 ≡ weight cost (lastBlock body) (v .1))
   unfolding bestRoute bestBy tails tailsBy
   best-leads = found-leads (conflict body)
+
+-- a side has no route just where there is none
+pub no-route : (body : Body) (side : Side)
+    → (routeOn body side ≡ none → routes body ≡ []) × (routes body ≡ [] → routeOn body side ≡ none)
+unfolding bestRoute best
+no-route body side = (by (routes body), λ e. ap (λ l. best (side .prefers) (map (weighed body (side .cost)) l)) e)
+  where
+    by : (l : List Path) → best (side .prefers) (map (weighed body (side .cost)) l) ≡ none → l ≡ []
+    by [] e = refl
+    by (p ∷ l) e =
+        let (v, q) = one-chosen (side .prefers) (weighed body (side .cost) p)
+        (best (side .prefers) (map (weighed body (side .cost)) l)) in
+        let z : _≡_ {A = ℕ} 0 1 = cc in absurd (omega arith)
+
+-- so where one side has none, no side has
+pub no-side : (body : Body) (side other : Side) → routeOn body side ≡ none → routeOn body other ≡ none
+no-side body side other e = no-route body other .1 (no-route body side .0 e)
+
+-- and both have one, or no path is free of conflict
+pub no-routes : (body : Body) (sides : Choice → Side)
+    → (routesOn body sides ≡ none → routes body ≡ []) × (routes body ≡ [] → routesOn body sides ≡ none)
+no-routes body sides = (
+  λ e. by (routeOn body (sides heaviest)) (routeOn body (sides lightest)) refl refl e,
+  λ e. ap (λ o. bothOf o (routeOn body (sides lightest))) (no-route body (sides heaviest) .1 e),
+)
+  where
+    by : (o p : Option (ℕ × Path)) → routeOn body (sides heaviest) ≡ o → routeOn body (sides lightest) ≡ p
+        → bothOf o p ≡ none → routes body ≡ []
+    by none p h l e = no-route body (sides heaviest) .0 h
+    by (some v) none h l e = no-route body (sides lightest) .0 l
+    by (some v) (some w) h l e = let z : _≡_ {A = ℕ} 0 1 = cc in absurd (omega arith)

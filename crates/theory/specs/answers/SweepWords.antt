@@ -7,7 +7,7 @@ use Prim.Native.Nat.{ℕ, _≤_, _<_, _^_}
 use lib.ListN.{length, length-map}
 use Rattle.laws.specs.Sets.{setOf-lt}
 use Rattle.laws.specs.Terms.{Mem}
-use Rattle.laws.specs.Orders.{Choice}
+use Rattle.laws.specs.Orders.{Preference}
 use Rattle.form.specs.declared.Body.{Body}
 use Rattle.form.specs.Conflict.{Edge, Pair, exits, Onward, listed}
 use Rattle.theory.specs.Route.{Path, conflict, tails, bestRoute}
@@ -61,7 +61,7 @@ module _ (body : Body) (list : List Pair) (cost : ℕ → ℕ → ℕ) (prefers 
     builtWords R b = fillWords R b (exits body b) (baseWords b)
 
     -- the rows above are those by definition: then the built row is
-    pub sweep-words : Onward body → Listing body list → Choice prefers → body .count ≤ n
+    pub sweep-words : Onward body → Listing body list → Preference prefers → body .count ≤ n
         → (R : ℕ → List (Key × Words)) (b : ℕ) → b < body .count
         → ((t : ℕ) → b < t → t < body .count → R t ≡ rowWords t) → builtWords R b ≡ rowWords b
     unfolding fillWords openTails tails openTailsBy tailsBy
@@ -72,7 +72,7 @@ module _ (body : Body) (list : List Pair) (cost : ℕ → ℕ → ℕ) (prefers 
 
 module _ (body : Body) (w : Onward body) (list : List Pair) (L : Listing body list) (cost : ℕ → ℕ → ℕ) (most : ℕ → ℕ)
     (cheap : (b way : ℕ) → b < body .count → cost b way ≤ most b)
-    (prefers : ℕ → ℕ → Bool) (ch : Choice prefers) where
+    (prefers : ℕ → ℕ → Bool) (ch : Preference prefers) where
   opens-lt : (b : ℕ) (p : Path)
       → (openEdges body list b p .0 < 2 ^ body .count) × (openEdges body list b p .1 < 2 ^ body .count)
   unfolding openEdges

@@ -12,7 +12,7 @@ use lib.Bits.{bitOr, or-lt}
 use lib.Dec.{eqb}
 use lib.Pow.{pow-pos}
 use Rattle.laws.specs.Terms.{range, bit}
-use Rattle.laws.specs.Orders.{Choice}
+use Rattle.laws.specs.Orders.{Preference}
 use Rattle.laws.specs.Lists.{only-out, map-same, range-out}
 use Rattle.laws.specs.Sets.{ext, bit-or, bit-none}
 use Rattle.form.specs.declared.Body.{Body}
@@ -125,7 +125,7 @@ module _ (body : Body) (prefers : ℕ → ℕ → Bool) where
 -- weight
 pub walk-words : (body : Body) → Onward body
     → {ruledOut : Path → Bool} {opens : ℕ → Path → Key} (W : Ways body ruledOut opens)
-    → (cost : ℕ → ℕ → ℕ) (prefers : ℕ → ℕ → Bool) → Choice prefers
+    → (cost : ℕ → ℕ → ℕ) (prefers : ℕ → ℕ → Bool) → Preference prefers
     → (budget : ℕ)
     → walk (walker body W cost) (advance cost) (tally prefers (finish cost) (body .count) budget) (body .count) 0
     (W .start) nothing (0, none)

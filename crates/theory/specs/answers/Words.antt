@@ -12,9 +12,9 @@ use native.Mathlib.Omega.{arith}
 use borrow.Author.Tests.{eqb-true}
 use lib.Dec.{eqb}
 use Rattle.laws.specs.Terms.{Mem, Sorted, next}
-use Rattle.laws.specs.Orders.{Choice}
+use Rattle.laws.specs.Orders.{Preference}
 use Rattle.laws.specs.Lists.{map-out, only-out}
-use Rattle.laws.specs.Rows.{insert, covers-insert, insert-across}
+use Rattle.laws.specs.Rows.{insert, keepBetter, covers-insert, insert-across}
 use Rattle.form.specs.declared.Body.{Body}
 use Rattle.form.specs.Conflict.{Edge, exits, Onward}
 use Rattle.theory.specs.Route.{Path, lastBlock, paths, weighed}
@@ -78,10 +78,10 @@ row-zero-words body ruledOut opens closed cost prefers =
 module _ (body : Body) (back : Edge → Key → Option Key) (cost : ℕ → ℕ → ℕ) (prefers : ℕ → ℕ → Bool) (n : ℕ) where
   -- the entries of the row of one target, with the step in front, into the row r
   abbrev pub pourWords : Edge → List (Key × Words) → List (Key × Words) → List (Key × Words)
-  pourWords x l r = pour keyBefore (betterWords n prefers) (back x) (growWords cost x) l r
+  pourWords x l r = pour keyBefore (keepBetter (betterWords n prefers)) (back x) (growWords cost x) l r
 
   abbrev pub fillWords : (ℕ → List (Key × Words)) → ℕ → List (ℕ × ℕ) → List (Key × Words) → List (Key × Words)
-  fillWords R b os r = fill keyBefore (betterWords n prefers) back (growWords cost) R b os r
+  fillWords R b os r = fill keyBefore (keepBetter (betterWords n prefers)) back (growWords cost) R b os r
 
   abbrev pub baseWords : ℕ → List (Key × Words)
   baseWords b = cond (eqb (suc b) (body .count)) ((noEdges, (cost b 0, (0, 0))) ∷ []) []
@@ -93,7 +93,7 @@ module _ (body : Body) (back : Edge → Key → Option Key) (cost : ℕ → ℕ 
 
 module _ (body : Body) (w : Onward body) {ruledOut : Path → Bool} {opens : ℕ → Path → Key}
     (W : Ways body ruledOut opens) (cost : ℕ → ℕ → ℕ)
-    (prefers : ℕ → ℕ → Bool) (ch : Choice prefers) (n : ℕ) (enough : body .count ≤ n) where
+    (prefers : ℕ → ℕ → Bool) (ch : Preference prefers) (n : ℕ) (enough : body .count ≤ n) where
   -- every entry's path leads from b to the last block
   abbrev From : ℕ → List (Key × Val) → Type 0
   From b r = (e : Key × Val) → Mem e r → Leads body b (e .1 .1) (lastBlock body)
@@ -112,13 +112,14 @@ module _ (body : Body) (w : Onward body) {ruledOut : Path → Bool} {opens : ℕ
     x = (b, way)
 
     abbrev put-in : Option Key → Val → List (Key × Val) → List (Key × Val)
-    put-in o v r = push keyBefore (better prefers) o v r
+    put-in o v r = push keyBefore (keepBetter (better prefers)) o v r
 
     longer : (p : Path) → Leads body t p (lastBlock body) → Leads body b (x ∷ p) (lastBlock body)
     longer p l = (t, refl, exit, l)
 
     push-words : (o : Option Key) (v : Val) (r : List (Key × Val)) → Leads body t (v .1) (lastBlock body) → From b r
-        → push keyBefore (betterWords n prefers) o (growWords cost x (wordsOf body v)) (map (onWords body) r)
+        → push keyBefore (keepBetter (betterWords n prefers)) o (growWords cost x (wordsOf body v))
+        (map (onWords body) r)
         ≡ map (onWords body) (put-in o (grow (cost b way) x v) r)
     push-words none v r l f = refl
     push-words (some k) v r l f =
@@ -139,7 +140,7 @@ module _ (body : Body) (w : Onward body) {ruledOut : Path → Bool} {opens : ℕ
         by (inr i) = f e i
 
     abbrev pour-paths : List (Key × Val) → List (Key × Val) → List (Key × Val)
-    pour-paths l r = pour keyBefore (better prefers) (W .back x) (grow (cost b way) x) l r
+    pour-paths l r = pour keyBefore (keepBetter (better prefers)) (W .back x) (grow (cost b way) x) l r
 
     pour-words : (l r : List (Key × Val)) → From t l → From b r
         → (pourWords body (W .back) cost prefers n x (map (onWords body) l) (map (onWords body) r) ≡ map (onWords body)
@@ -157,7 +158,8 @@ module _ (body : Body) (w : Onward body) {ruledOut : Path → Bool} {opens : ℕ
       → ((o : ℕ × ℕ) → Mem o os → From (o .1) (R (o .1)))
       → (r : List (Key × Val)) → From b r
       → fillWords body (W .back) cost prefers n (λ t. map (onWords body) (R t)) b os (map (onWords body) r)
-      ≡ map (onWords body) (fill keyBefore (better prefers) (W .back) (grown (sweeper body W cost)) R b os r)
+      ≡ map (onWords body)
+      (fill keyBefore (keepBetter (better prefers)) (W .back) (grown (sweeper body W cost)) R b os r)
   unfolding fill
   fill-words R b [] i f r g = refl
   fill-words R b (o ∷ os) i f r g =
@@ -239,7 +241,7 @@ module _ (body : Body) (w : Onward body) {ruledOut : Path → Bool} {opens : ℕ
     (small : (b : ℕ) (p : Path) → (opens b p .0 < 2 ^ body .count) × (opens b p .1 < 2 ^ body .count)) (cost : ℕ → ℕ
     → ℕ)
     (most : ℕ → ℕ) (cheap : (b way : ℕ) → b < body .count → cost b way ≤ most b) (prefers : ℕ → ℕ
-    → Bool) (ch : Choice prefers) where
+    → Bool) (ch : Preference prefers) where
   path-fits : (b : ℕ) (p : Path) → b < body .count → Leads body b p (lastBlock body)
       → Fits body most b (onWords body (opens b p, weighed body cost p))
   path-fits b p h l = record {

@@ -5,7 +5,7 @@
 use mathlib.Core.Path.{_≡_, refl, ap, _∙_}
 use mathlib.Core.Logic.{_⊎_, inl, inr}
 use mathlib.Core.Bool.{Bool, true, false, cond}
-use mathlib.Core.List.{List, [], _∷_, _++_}
+use mathlib.Core.List.{List, [], _∷_, _++_, map}
 use mathlib.Core.Option.{Option, none, some}
 use Prim.Native.Nat.{ℕ, zero, suc, _+_, _-_, _≤_, _<_}
 use native.Mathlib.Omega.{arith}
@@ -14,7 +14,7 @@ use lib.ListN.{getD}
 use Rattle.laws.specs.Terms.{Mem, Sorted, pairb}
 use Rattle.laws.specs.Orders.{Order, lexb, lexb-order, lexb-cons, pair-order, ltb-order, next-first}
 use Rattle.laws.specs.Lists.{mem-append, sorted-append}
-use Rattle.laws.specs.Rows.{insert, put, ext, Stepped, mem-ext-out}
+use Rattle.laws.specs.Rows.{insertKeeping, keepBetter, across, keeping-across, put, ext, Stepped, mem-ext-out}
 use Rattle.form.specs.declared.Body.{Body}
 use Rattle.form.specs.Conflict.{Edge, exits}
 use Rattle.theory.specs.Route.{Path}
@@ -101,10 +101,11 @@ module _ {K : Type 0} (M : Machine K) where
 
 -- ---- rows by insertion
 
-module _ {K B : Type 0} (lt : K → K → Bool) (bt : B → B → Bool) where
+-- over what is kept of two values of a key
+module _ {K B : Type 0} (lt : K → K → Bool) (keep : (new old : B) → B) where
   abbrev pub push : Option K → B → List (K × B) → List (K × B)
   push none v r = r
-  push (some k) v r = insert lt bt (k, v) r
+  push (some k) v r = insertKeeping lt keep (k, v) r
 
   -- each entry of a row, with a step in front, into the row r
   unfoldable pub pour : (K → Option K) → (B → B) → List (K × B) → List (K × B) → List (K × B)
@@ -117,10 +118,27 @@ module _ {K B : Type 0} (lt : K → K → Bool) (bt : B → B → Bool) where
   fill s g R b [] r = r
   fill s g R b (o ∷ os) r = fill s g R b os (pour (s (b, o .0)) (g (b, o .0)) (R (o .1)) r)
 
+-- with other values in the place of these, where the two keep alike
+module _ {K B C : Type 0} (φ : B → C) (lt : K → K → Bool) (keepB : (new old : B) → B) (keepC : (new old : C) → C)
+    (same : (new old : B) → keepC (φ new) (φ old) ≡ φ (keepB new old)) where
+  push-across : (o : Option K) (v : B) (r : List (K × B))
+      → push lt keepC o (φ v) (map (across φ) r) ≡ map (across φ) (push lt keepB o v r)
+  push-across none v r = refl
+  push-across (some k) v r = keeping-across φ lt keepB keepC (k, v) r (λ x m. same v (x .1))
+
+  pub pour-across : (s : K → Option K) (g : B → B) (h : C → C) → ((v : B) → h (φ v) ≡ φ (g v)) → (l r : List (K × B))
+      → pour lt keepC s h (map (across φ) l) (map (across φ) r) ≡ map (across φ) (pour lt keepB s g l r)
+  unfolding pour
+  pour-across s g h like [] r = refl
+  pour-across s g h like (e ∷ l) r =
+      ap (λ v. pour lt keepC s h (map (across φ) l) (push lt keepC (s (e .0)) v (map (across φ) r))) (like (e .1))
+      ∙ ap (pour lt keepC s h (map (across φ) l)) (push-across (s (e .0)) (g (e .1)) r)
+      ∙ pour-across s g h like l (push lt keepB (s (e .0)) (g (e .1)) r)
+
 module _ {K : Type 0} (M : Machine K) (lt : K → K → Bool) (bt : Val → Val → Bool) where
   -- row b, from the rows R of the blocks above
   abbrev pub built : (ℕ → List (K × Val)) → ℕ → List (K × Val)
-  built R b = fill lt bt (M .step) (grown M) R b (M .outs b) (base M b)
+  built R b = fill lt (keepBetter bt) (M .step) (grown M) R b (M .outs b) (base M b)
 
   -- the rows of the last k blocks
   unfoldable pub table : ℕ → List (List (K × Val))

@@ -9,7 +9,7 @@ use mathlib.Core.Option.{Option, none, some}
 use Prim.Native.Nat.{ℕ}
 use Rattle.laws.specs.Terms.{Mem, Sorted, only, each}
 use Rattle.laws.specs.Tests.{split, clash}
-use Rattle.laws.specs.Orders.{Order, Choice, asym, ntrans, pair-order}
+use Rattle.laws.specs.Orders.{Order, Preference, asym, ntrans, pair-order}
 use Rattle.laws.specs.Lists.{each-out, each-in, map-in}
 use Rattle.laws.specs.Rows.{Asc, IsRow, row-unique}
 use Rattle.theory.specs.Route.{choose, best}
@@ -89,7 +89,7 @@ module _ {K : Type 0} (lt : K → K → Bool) (oK : Order lt) where
 
 -- ---- weights and paths
 
-module _ (prefers : ℕ → ℕ → Bool) (ch : Choice prefers) where
+module _ (prefers : ℕ → ℕ → Bool) (ch : Preference prefers) where
   pub better-order : Order (better prefers)
   better-order = pair-order prefers first (ch .order) first-order
 
@@ -98,7 +98,7 @@ module _ (prefers : ℕ → ℕ → Bool) (ch : Choice prefers) where
 
 -- ---- of one key
 
-module _ {K : Type 0} (lt : K → K → Bool) (oK : Order lt) (prefers : ℕ → ℕ → Bool) (ch : Choice prefers) where
+module _ {K : Type 0} (lt : K → K → Bool) (oK : Order lt) (prefers : ℕ → ℕ → Bool) (ch : Preference prefers) where
   -- y is an entry of l, and none of its key is better
   abbrev Ok : List (K × Val) → K × Val → Type 0
   Ok l y = Mem y l × ((x : K × Val) → Mem x l → x .0 ≡ y .0 → better prefers (x .1) (y .1) ≡ false)

@@ -12,10 +12,10 @@ use native.Mathlib.Nat.{le-of-suc-le-suc, not-suc-le-zero, le-of-lt, le-refl}
 use lib.Dec.{eqb}
 use lib.ListN.{getD}
 use Rattle.laws.specs.Terms.{Mem}
-use Rattle.laws.specs.Orders.{Order, Choice, lexb-cons}
+use Rattle.laws.specs.Orders.{Order, Preference, lexb-cons}
 use Rattle.laws.specs.Lists.{mem-left, mem-right, mem-append}
 use Rattle.laws.specs.Rows.{Covers, IsRow, covers-refl, covers-trans, covers-append, covers-cons, covers-insert}
-use Rattle.laws.specs.Rows.{asc-insert, dom-refl, put, ext, ext-covers}
+use Rattle.laws.specs.Rows.{keepBetter, asc-insert, dom-refl, put, ext, ext-covers}
 use Rattle.form.specs.Conflict.{Edge}
 use Rattle.theory.specs.Row.{rowOf}
 use Rattle.theory.specs.machines.Machine.{Val, grow, edgeBefore, edge-order, better, Machine, Forward, Ordered}
@@ -41,7 +41,7 @@ module _ {K B : Type 0} (lt : K → K → Bool) (bt : B → B → Bool) (oK : Or
   row-after l m r c h = record { asc = h .asc; covers = covers-trans lt bt oK oB l m r c (h .covers) }
 
   push-row : (o : Option K) (v : B) (l r : List (K × B)) → IsRow lt bt l r
-      → IsRow lt bt (l ++ put o v []) (push lt bt o v r)
+      → IsRow lt bt (l ++ put o v []) (push lt (keepBetter bt) o v r)
   push-row none v l r h = rw append-nil h
   push-row (some k) v l r h =
       row-after _ _ _ (covers-trans lt bt oK oB _ _ _ (covers-snoc (k, v) l)
@@ -53,7 +53,7 @@ module _ {K B : Type 0} (lt : K → K → Bool) (bt : B → B → Bool) (oK : Or
   put-append (some k) v l m = append-assoc l ((k, v) ∷ []) m
 
   pour-row : (s : K → Option K) (g : B → B) (es l r : List (K × B)) → IsRow lt bt l r
-      → IsRow lt bt (l ++ ext s g es) (pour lt bt s g es r)
+      → IsRow lt bt (l ++ ext s g es) (pour lt (keepBetter bt) s g es r)
   unfolding ext pour
   pour-row s g [] l r h = rw append-nil h
   pour-row s g (e ∷ es) l r h =
@@ -61,7 +61,7 @@ module _ {K B : Type 0} (lt : K → K → Bool) (bt : B → B → Bool) (oK : Or
       (pour-row s g es _ _ (push-row (s (e .0)) (g (e .1)) l r h))
 
 module _ {K : Type 0} (M : Machine K) (lt : K → K → Bool) (oK : Order lt) (prefers : ℕ → ℕ → Bool)
-    (ch : Choice prefers) where
+    (ch : Preference prefers) where
   grow-keeps : (c : ℕ) (x : Edge) (u v : Val) → better prefers (grow c x u) (grow c x v) ≡ better prefers u v
   grow-keeps c x u v =
       rw (ch .shift c (u .0) (v .0), ch .shift c (v .0) (u .0), lexb-cons edgeBefore edge-order x (u .1) (v .1))
@@ -69,7 +69,8 @@ module _ {K : Type 0} (M : Machine K) (lt : K → K → Bool) (oK : Order lt) (p
   fill-row : (R S : ℕ → List (K × Val)) (b : ℕ) (os : List (ℕ × ℕ))
       → ((o : ℕ × ℕ) → Mem o os → Covers (better prefers) (R (o .1)) (S (o .1)))
       → (l r : List (K × Val)) → IsRow lt (better prefers) l r
-      → IsRow lt (better prefers) (l ++ spread M R b os) (fill lt (better prefers) (M .step) (grown M) S b os r)
+      → IsRow lt (better prefers) (l ++ spread M R b os)
+      (fill lt (keepBetter (better prefers)) (M .step) (grown M) S b os r)
   unfolding fill
   fill-row R S b [] c l r h = rw append-nil h
   fill-row R S b (o ∷ os) c l r h =

@@ -15,7 +15,7 @@ use lib.Dec.{eqb, ltb}
 use lib.ListN.{length, length-map}
 use Rattle.laws.specs.Terms.{Mem, only}
 use Rattle.laws.specs.Lists.{only-map}
-use Rattle.laws.specs.Orders.{Choice, ntrans}
+use Rattle.laws.specs.Orders.{Preference, ntrans}
 use Rattle.form.specs.Conflict.{Edge}
 use Rattle.theory.specs.Route.{Path, choose, best}
 use Rattle.theory.specs.machines.Machine.{Val, grow, Machine, Forward}
@@ -195,7 +195,7 @@ module _ (prefers : ℕ → ℕ → Bool) {X : Type 0} where
   tallyBy false false a v = some (suc (a .0), a .1)
 
   -- the first kept is the best
-  module _ (ch : Choice prefers) where
+  module _ (ch : Preference prefers) where
     either : (x y z : ℕ × X) (a b c : Bool) → prefers (y .0) (x .0) ≡ a → prefers (z .0) (y .0) ≡ b
         → prefers (z .0) (x .0) ≡ c
         → cond (prefers (z .0) (cond a y x .0)) z (cond a y x) ≡ cond (prefers (cond b z y .0) (x .0)) (cond b z y) x
@@ -282,7 +282,7 @@ module _ {S : Type 0} (M : Machine S) (prefers : ℕ → ℕ → Bool) {C X : Ty
       )
 
   -- over the budget, or the number of visits and the best of the whole paths
-  pub walk-answer : Choice prefers → (n b : ℕ) (s : S) (c : C)
+  pub walk-answer : Preference prefers → (n b : ℕ) (s : S) (c : C)
       → walk M advance (tally prefers finish (M .count) budget) n b s c (0, none)
       ≡ within budget (length (visits M n b s)) (best prefers (given advance finish (M .count) c (visits M n b s)))
   walk-answer ch n b s c =

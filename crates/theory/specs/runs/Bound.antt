@@ -16,9 +16,9 @@ use borrow.Author.Tests.{eqb-true, ltb-false}
 use lib.Dec.{eqb}
 use lib.IntN.{ℤ}
 use lib.ListN.{length}
-use Rattle.laws.specs.Terms.{Mem, heavier, lighter}
+use Rattle.laws.specs.Terms.{Mem, heavier, lighter, heaviest, lightest}
 use Rattle.laws.specs.Tests.{clash, and-out, or-out, is-false, not-out, or-none}
-use Rattle.laws.specs.Orders.{Choice, sum-unpreferred, heaviest, lightest}
+use Rattle.laws.specs.Orders.{Preference, sum-unpreferred, preference}
 use Rattle.laws.specs.Lists.{map-in, only-in}
 use Rattle.form.specs.declared.Body.{Body}
 use Rattle.form.specs.declared.Effect.{Effect}
@@ -218,7 +218,7 @@ module _ (body : Body) (g : Sound body) (ruledOut : Path → Bool) (never : Neve
 
   module _ (cost : ℕ → ℕ → ℕ) where
     -- no iteration's weight is preferred to the best route's
-    pub taken-best : (prefers : ℕ → ℕ → Bool) → Choice prefers → {s t : State} {p : Path} → Iteration body 0 s p t
+    pub taken-best : (prefers : ℕ → ℕ → Bool) → Preference prefers → {s t : State} {p : Path} → Iteration body 0 s p t
         → (v : ℕ × Path) → bestBy body ruledOut cost prefers ≡ some v
         → prefers (weight cost (lastBlock body) p) (v .0) ≡ false
     unfolding bestBy
@@ -227,7 +227,7 @@ module _ (body : Body) (g : Sound body) (ruledOut : Path → Bool) (never : Neve
         (map-in (weighed body cost) (tailsBy body ruledOut 0) p (taken-route i))
 
     -- nor what a whole run costs to as many times the best weight
-    pub taken-whole : (prefers : ℕ → ℕ → Bool) → Choice prefers → (v : ℕ × Path)
+    pub taken-whole : (prefers : ℕ → ℕ → Bool) → Preference prefers → (v : ℕ × Path)
         → bestBy body ruledOut cost prefers ≡ some v → {l : List (Path × ℕ)} (r : Run body l) → whole r ≡ true
         → prefers (runCost body cost l) (boundOf (length l) (v .0)) ≡ false
     unfolding whole runCost
@@ -243,7 +243,8 @@ module _ (body : Body) (g : Sound body) (ruledOut : Path → Bool) (never : Neve
         → {l : List (Path × ℕ)} (r : Run body l) → whole r ≡ true → length l ≡ count
         → boundOf count (v .0) ≤ runCost body cost l
     taken-least v h count {l} r w n =
-        rw (← n) (ltb-false (runCost body cost l) (boundOf (length l) (v .0)) (taken-whole lighter lightest v h r w))
+        rw (← n) (ltb-false (runCost body cost l) (boundOf (length l) (v .0))
+        (taken-whole lighter (preference lightest) v h r w))
 
     -- a run of no more iterations than the count costs at most the bound of the count and the heaviest weight
     pub taken-bound : ((b way : ℕ) → cost b 0 ≤ cost b way) → (v : ℕ × Path)
@@ -252,7 +253,8 @@ module _ (body : Body) (g : Sound body) (ruledOut : Path → Bool) (never : Neve
     taken-bound least v h count r n =
         let (m, s, w, e, c) = completed body g cost least r in
         le-trans c (le-trans
-        (ltb-false (boundOf (length m) (v .0)) (runCost body cost m) (taken-whole heavier heaviest v h s w))
+        (ltb-false (boundOf (length m) (v .0)) (runCost body cost m)
+        (taken-whole heavier (preference heaviest) v h s w))
         (mul-le-mul-right (v .0) (omega arith)))
 
 -- ---- and for pairs in conflict
@@ -266,13 +268,13 @@ module _ (body : Body) (g : Sound body) where
   iteration-route i = taken-route body g (conflict body) never-taken i
 
   module _ (cost : ℕ → ℕ → ℕ) where
-    pub iteration-best : (prefers : ℕ → ℕ → Bool) → Choice prefers → {s t : State} {p : Path} → Iteration body 0 s p t
-        → (v : ℕ × Path) → bestRoute body cost prefers ≡ some v
+    pub iteration-best : (prefers : ℕ → ℕ → Bool) → Preference prefers → {s t : State} {p : Path}
+        → Iteration body 0 s p t → (v : ℕ × Path) → bestRoute body cost prefers ≡ some v
         → prefers (weight cost (lastBlock body) p) (v .0) ≡ false
     unfolding bestRoute bestBy tails tailsBy
     iteration-best = taken-best body g (conflict body) never-taken cost
 
-    pub run-best : (prefers : ℕ → ℕ → Bool) → Choice prefers → (v : ℕ × Path) → bestRoute body cost prefers ≡ some v
+    pub run-best : (prefers : ℕ → ℕ → Bool) → Preference prefers → (v : ℕ × Path) → bestRoute body cost prefers ≡ some v
         → {l : List (Path × ℕ)} (r : Run body l) → whole r ≡ true
         → prefers (runCost body cost l) (boundOf (length l) (v .0)) ≡ false
     unfolding bestRoute bestBy tails tailsBy

@@ -1,7 +1,8 @@
 -- `walk::walk` meets its contract: the refusal that the start is, or the planned walk.
+use Rattle.theory.specs.Plan.{sidesBy}
 use Rattle.form.specs.Form.{bodyOf}
 use Rattle.roundtrip.specs.Sound.{sound}
-use Rattle.theory.specs.Route.{stepCost, dearest}
+use Rattle.theory.specs.Route.{stepCost}
 use Rattle.plan.specs.Prepared.{start-owed, start-plan, start-few}
 use Rattle.walk.specs.Answer.{refused, walkOutcome}
 use Rattle.plan.specs.Prepared.{started}
@@ -36,7 +37,7 @@ returns-2 c =
     let s = started (ready .ensures)
     (c .before .before .before .before .before .before .if1 .left) in
     start-owed form _ _ _ s (refused (a .route .now))
-    (walkOutcome (bodyOf form) (dearest (bodyOf form)) (a .budget) (a .route .now)) _
+    (walkOutcome (bodyOf form) (sidesBy (stepCost (bodyOf form))) (a .budget) (a .route .now)) _
     (c .before .before .walk-planned .ensures (bodyOf form) (stepCost (bodyOf form)) (s .planned)
     (sound form (s .accepted)) (s .size))
 

@@ -1,14 +1,14 @@
--- `cases::show::route` is proved. The loop passes the 64 bytes one by one. Assumes nothing.
-use Prim.Native.Nat.{_≤_, _-_}
+-- `cases::show::route` is proved. The loop passes the bytes one by one. Assumes nothing.
+use Prim.Native.Nat.{_-_}
 use borrow.Author.Needs.{needs}
 use Rattle.cases.proofs.show.route.Statement.{statement}
 use Rattle.cases.proofs.show.route.Tie as tie
 
 abbrev Inv-loop : tie.InvT-loop
-Inv-loop bytes i₀ t5 t6 i = i ≤ 64
+Inv-loop from bytes i₀ t6 i = Unit {0}
 
 abbrev μ-loop : tie.MeasureT-loop
-μ-loop bytes i₀ t5 t6 i = 64 - i
+μ-loop from bytes i₀ t6 i = 128 - i
 
 pub route-spec : {M : Type 1} → statement M
 route-spec =
@@ -16,17 +16,13 @@ route-spec =
     (tie.spec
     Inv-loop
     μ-loop
-    (λ c. search needs)
-    (λ c κs. search needs)
-    (λ c. search needs)
-    (λ c. search needs)
-    (λ c κs. search needs)
-    (λ c. search needs)
-    (λ c κs. search needs)
-    (λ c. search needs)
-    (λ c. search needs)
-    (λ c. search needs)
+    (λ c. tt)
     (λ c. search needs)
     (λ c. search needs)
     (λ c κs. search needs)
+    (λ c κs. search needs)
+    (λ c. search needs)
+    (λ c. search needs)
+    (λ c. tt)
+    (λ c. search needs)
     (λ c. search needs))

@@ -1,11 +1,11 @@
--- `rows::side_of` meets its contract.
-use Rattle.rows.specs.Steps.{sideOf}
+-- `rows::half_of` meets its contract.
+use Rattle.rows.specs.Steps.{halfOf}
 use borrow.Author.Needs.{needs}
-use Rattle.rows.proofs.side_of.Statement.{statement}
-use Rattle.rows.proofs.side_of.Tie as tie
+use Rattle.rows.proofs.half_of.Statement.{statement}
+use Rattle.rows.proofs.half_of.Tie as tie
 
 returns : tie.Need-returns
-unfolding sideOf
+unfolding halfOf
 returns c =
     let when = c .before in
     let touched = when .before in
@@ -22,8 +22,8 @@ returns c =
       denied .before .against .ensures,
     )
 
-pub side-of-spec : {M : Type 1} → statement M
-side-of-spec =
+pub half-of-spec : {M : Type 1} → statement M
+half-of-spec =
     tie.close
     (tie.spec
     (λ c κs. search needs)
