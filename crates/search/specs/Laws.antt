@@ -12,8 +12,7 @@ use borrow.Author.Tests.{eq-eqb, ne-eqb, ltb-true, ltb-false, lt-ltb}
 use lib.Bits.{bitOr, or-lt}
 use lib.Pow.{pow-lt}
 use lib.Dec.{eqb, ltb}
-use lib.ListN.{getD}
-use Rattle.laws.specs.Terms.{Mem, Choice, heaviest, lightest, preferred, bit}
+use Rattle.laws.specs.Terms.{Mem, Choice, preferred, bit}
 use Rattle.laws.specs.Tests.{split, clash, is-false, and-out, or-out, or-none, not-out}
 use Rattle.laws.specs.Sets.{ext, bit-with}
 use Rattle.laws.specs.Orders.{preference}
@@ -31,7 +30,7 @@ use Rattle.theory.specs.Main.{walk-answer}
 use Rattle.theory.specs.Range.{upTo, up-next, up-on}
 use Rattle.theory.specs.PlanWays.{by-way, by-jump, by-fall}
 use Rattle.theory.specs.Plan.{targetAt, costAt, IsWay, Planned, PlanOf}
-use Rattle.search.specs.Terms.{placeOf, wayKept, keptIn, Found, eightFrom, soFar, tallied, Standing}
+use Rattle.search.specs.Terms.{keptIn, Found, eightFrom, soFar, tallied, Standing}
 use Rattle.search.specs.Terms.{Barred, Entered, Barring, counting, walkFrom, Walks, isOpen, Took, Searched}
 use Rattle.search.specs.Terms.Took.{stays, goes}
 

@@ -28,7 +28,6 @@ use Rattle.entries.specs.declared.Entry.{Entry}
 use Rattle.entries.specs.Entries.{Both, entriesFrom, entries-length}
 use Rattle.entries.specs.Structs.{tupleOf, structAt}
 use Rattle.rows.specs.Begun.{Holds, begunWith}
-use Rattle.rows.specs.Rows.{leftFrom}
 use Rattle.rows.specs.Sides.{sideRow, leftOn, left-side, begun-side}
 use Rattle.sweep_steps.specs.declared.Swept.{Swept}
 use Rattle.sweep_steps.specs.declared.Swept.the-variants.{Crowded, Rows}
