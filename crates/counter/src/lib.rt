@@ -1,5 +1,6 @@
 // The counter of document 01: how often the body of a counted loop runs, in closed form. Numbers of 32 bits are worked
 // on at 64, where a difference of two, a negation and one more step still fit.
+#![tactic(auto)]
 ghost use Rattle.std.specs.Prelude.{◌≡◌, ◌/◌, ◌%◌, ◌<◌, eqb, pos, neg_ℤ, ◌-ℤ◌};
 ghost use Rattle.laws.specs.Whole.{up, dn};
 ghost use Rattle.form.specs.Relation.{meets};
@@ -9,7 +10,7 @@ ghost use Rattle.lower_laws.specs.Loops.{count_of};
 ghost use Rattle.counter.specs.Answer.{Owed, said};
 
 // What the counter answers: the count, or the refusal's number and place.
-#[derive(Drop)]
+#[derive(Clone, Copy)]
 pub enum Counted {
     Iterations(u64),
     Refused { number: u32, place: usize },

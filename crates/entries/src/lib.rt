@@ -1,5 +1,6 @@
 // Entries in a row's words, in the order of their keys: one read and put by its place, and one put in where its key
 // belongs. Only `entry_at` and `put_entry` know how an entry lies in the words.
+#![tactic(auto)]
 ghost use Rattle.std.specs.Prelude.{◌≡◌, ◌&&◌, suc, ◌+◌, ◌*◌, ◌≤◌, eqb, ltb, length};
 ghost use Rattle.laws.specs.Terms.{preferred};
 ghost use Rattle.theory.specs.Row.{key_before};
@@ -8,7 +9,7 @@ ghost use Rattle.entries.specs.Structs.{words_in, tuple_of, struct_at};
 
 // A way to the end of a body as words: its weight, the blocks left by jump or go, the blocks left by fall.
 #[repr(C)]
-#[derive(Drop)]
+#[derive(Clone, Copy)]
 pub struct Way {
     pub weight: u64,
     pub jumped: u64,
@@ -18,7 +19,7 @@ pub struct Way {
 // For one pair of sets of open edges, the jump set and the fall set: of the tails with just these the first of the
 // heaviest, and the first of the lightest.
 #[repr(C)]
-#[derive(Drop)]
+#[derive(Clone, Copy)]
 pub struct Entry {
     pub jumps: u64,
     pub falls: u64,

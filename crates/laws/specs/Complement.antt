@@ -32,7 +32,7 @@ negative_bits (negsuc m) f e = (m, minus_one_less_negative m, f.sfits, omega ari
 
 -- a signed number that a call gave, as it is held in 32 bits
 pub held : {r z : ℤ} → mag r < 2 ^ 31 → r ≡ z → to_z w32 (of_z w32 r) ≡ z
-held ok e = to_z-of_z (record { sfits = ok }) ∙ e
+held ok e = to_z-of_z {w = w32} (record { sfits = ok }) ∙ e
 
 -- the bits of a signed number, as a field of a struct hands it to a call
 pub field_bits : (z : ℤ) {r : ℕ} → mag z < 2 ^ 31 → r ≡ of_z w32 (to_z w32 (of_z w32 z)) → r ≡ of_z w32 z

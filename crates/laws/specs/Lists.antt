@@ -34,6 +34,8 @@ module _ {A : Type 0} where
 
   -- an entry that stands there by a test
   pub tested_out : (c : Bool) (x y : A) → Mem y (cond c (x ∷ []) []) → (c ≡ true) × (y ≡ x)
+  tested_out false x y x3 = elim x3 [ ]
+  tested_out true x y (inr x5) = elim x5 [ ]
   tested_out true x y (inl e) = (refl, e)
 
   pub tested_in : (c : Bool) (x : A) → c ≡ true → Mem x (cond c (x ∷ []) [])
@@ -41,6 +43,7 @@ module _ {A : Type 0} where
 
   -- a member cuts its list
   pub cut : (l : List A) (e : A) → Mem e l → (a : List A) × (b : List A) × (l ≡ a ++ (e ∷ b))
+  cut [] e x' = elim x' [ ]
   cut (x ∷ l) e (inl p) = ([], l, rw p)
   cut (x ∷ l) e (inr m) = let (a, b, q) = cut l e m in (x ∷ a, b, ap (λ t. x ∷ t) q)
 
@@ -59,6 +62,7 @@ module _ {A : Type 0} where
   only_put x y r false m = m
 
   pub only_in : (f : A → Bool) (l : List A) (x : A) → f x ≡ true → Mem x l → Mem x (only f l)
+  only_in f [] x h x4 = elim x4 [ ]
   only_in f (y ∷ l) x h (inl e) = let k : f y ≡ true = sym (ap f e) ∙ h in rw k (inl e)
   only_in f (y ∷ l) x h (inr m) = only_put x y (only f l) (f y) (only_in f l x h m)
 
@@ -77,6 +81,7 @@ module _ {A : Type 0} where
       or_out (f y) _ h (λ k. (y, inl refl, k)) (λ k. let (x, m, e) = any_of_out f l k in (x, inr m, e))
 
   pub any_of_in : (f : A → Bool) (l : List A) (x : A) → Mem x l → f x ≡ true → any_of f l ≡ true
+  any_of_in f [] x x4 h = elim x4 [ ]
   any_of_in f (y ∷ l) x (inl e) h = or_in_left _ (sym (ap f e) ∙ h)
   any_of_in f (y ∷ l) x (inr m) h = or_in_right (f y) (any_of_in f l x m h)
 
@@ -91,6 +96,7 @@ module _ {A B : Type 0} where
       go h (inr n) = let (z, k, q) = h n in (z, inr k, q)
 
   pub each_in : (l : List A) (f : A → List B) (x : A) (y : B) → Mem x l → Mem y (f x) → Mem y (each l f)
+  each_in [] f x y x4 m = elim x4 [ ]
   each_in (z ∷ l) f x y (inl e) m = mem_left y (f z) (each l f) (rw e at m)
   each_in (z ∷ l) f x y (inr n) m = mem_right y (f z) (each l f) (each_in l f x y n m)
 
@@ -100,6 +106,7 @@ module _ {A B : Type 0} where
   map_out f (x ∷ l) y (inr m) = let (z, n, e) = map_out f l y m in (z, inr n, e)
 
   pub map_in : (f : A → B) (l : List A) (x : A) → Mem x l → Mem (f x) (map f l)
+  map_in f [] x x3 = elim x3 [ ]
   map_in f (z ∷ l) x (inl e) = inl (ap f e)
   map_in f (z ∷ l) x (inr m) = inr (map_in f l x m)
 
@@ -153,6 +160,7 @@ module _ {A B : Type 0} where
 -- ---- ranges
 
 pub range_out : (a n x : ℕ) → Mem x (range a n) → (a ≤ x) × (x < a + n)
+range_out a zero x x3 = elim x3 [ ]
 range_out a (suc n) x (inl e) = (omega arith, omega arith)
 range_out a (suc n) x (inr m) = let h = range_out (suc a) n x m in (omega arith, omega arith)
 
@@ -179,6 +187,7 @@ module _ {A : Type 0} (bf : A → A → Bool) where
       up y (inr m) = c x y (inl refl) m
 
   pub sorted_at : (a b : List A) (x e : A) → Sorted bf (a ++ (e ∷ b)) → Mem x a → bf x e ≡ true
+  sorted_at [] b x e h x4 = elim x4 [ ]
   sorted_at (y ∷ a) b x e h (inl p) = rw p (h.0 e (mem_right e a (e ∷ b) (inl refl)))
   sorted_at (y ∷ a) b x e h (inr m) = sorted_at a b x e h.1 m
 

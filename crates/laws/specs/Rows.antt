@@ -136,6 +136,7 @@ module _ {K B : Type 0} (lt : K → K → Bool) (bt : B → B → Bool) where
 
     -- an ascending list has one entry of a key, and is known by its entries
     pub asc_one : (r : List (K × B)) (x y : K × B) → Asc r → Mem x r → Mem y r → x.0 ≡ y.0 → x ≡ y
+    asc_one [] x y h x6 _ k = elim x6 [ ]
     asc_one (z ∷ r) x y h (inl p) (inl q) k = p ∙ sym q
     asc_one (z ∷ r) x y h (inl p) (inr n) k = clash (h.0 y n) (rw (← p, k) (oK.irr y.0))
     asc_one (z ∷ r) x y h (inr m) (inl q) k = clash (h.0 x m) (rw (← q, k) (oK.irr y.0))
@@ -195,6 +196,7 @@ module _ {K B : Type 0} (s : K → Option K) (g : B → B) where
 
   pub mem_ext_in : (l : List (K × B)) (e : K × B) (k : K) → s e.0 ≡ some k → Mem e l → Mem (k, g e.1) (ext l)
   unfolding ext
+  mem_ext_in [] e k h x'' = elim x'' [ ]
   mem_ext_in (x ∷ l) e k h (inl p) = rw (← p, h) (inl refl)
   mem_ext_in (x ∷ l) e k h (inr m) = mem_put (s x.0) (k, g e.1) (g x.1) (ext l) (mem_ext_in l e k h m)
 

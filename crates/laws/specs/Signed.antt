@@ -41,7 +41,7 @@ module _ (x : ℤ) (f : SFits w32 x) where
 -- ---- a number read back from its bits
 -- a call's result (its `.ok` and what its `ensures` says), as the next call is handed it
 pub handed : {r z : ℤ} → mag r < 2 ^ 63 → r ≡ z → to_z w64 (of_z w64 r) ≡ z
-handed ok e = to_z-of_z (record { sfits = ok }) ∙ e
+handed ok e = to_z-of_z {w = w64} (record { sfits = ok }) ∙ e
 
 -- the same where it is what was read back from a number of 32 bits
 pub widened : {r z : ℤ} → SFits w32 z → mag r < 2 ^ 63 → r ≡ to_z w32 (of_z w32 z) → to_z w64 (of_z w64 r) ≡ z

@@ -1,1 +1,2 @@
 // Mathematics only: no function stands here. The laws are in specs/.
+#![tactic(auto)]

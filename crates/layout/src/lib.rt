@@ -1,5 +1,6 @@
 // A body laid out: the bytes of its records, one after the other, in lent bytes. Offsets of fields stand here and where
 // a record is decoded (crate records), and nowhere else. What bytes a body is laid out as is in form's Form.
+#![tactic(auto)]
 ghost use Rattle.std.specs.Prelude.{◌≡◌, true, ◌++◌, ◌+◌, ◌*◌, ◌≤◌, length, take, drop};
 ghost use Rattle.std.specs.Int.{w32};
 ghost use Rattle.std.proofs.Common.{of_z};
@@ -8,7 +9,7 @@ ghost use Rattle.lent.specs.Adding.{Adds};
 ghost use Rattle.layout.specs.Number.{bytes_of};
 
 // The four bytes of a number, as a record has them: the lowest first.
-#[derive(Drop)]
+#[derive(Clone, Copy)]
 struct FourBytes {
     lowest: u8,
     second: u8,

@@ -1,11 +1,12 @@
 // The conflict list of document 01, for any form: read off what the crate path_sets finds of a body, its bytes laid out
 // by the crate list_bytes. The meaning is in specs/Answer.antt and in form's Conflict.
+#![tactic(auto)]
 ghost use Rattle.std.specs.Prelude.{◌≡◌, length};
 ghost use Rattle.form.specs.Conflict.{Sound, conflict_bytes};
 ghost use Rattle.listing.specs.Answer.{listed_in, held_after, Answered};
 
 // What the conflict list answers: how many bytes it wrote, or the refusal's number and place.
-#[derive(Drop)]
+#[derive(Clone, Copy)]
 pub enum Listed {
     Bytes(usize),
     Refused { number: u32, place: usize },

@@ -1,5 +1,6 @@
 // What a body's blocks, effects and edges say by themselves, as sets of edges in words: the part of its conflicts
 // that looks at no path. The meaning is in sets' Local and in form's Conflict.
+#![tactic(auto)]
 ghost use Rattle.std.specs.Prelude.{◌≡◌, ◌+◌, ◌≤◌, ltb, length};
 ghost use Rattle.form.specs.Form.{when};
 ghost use Rattle.form.specs.Conflict.{no_block};
@@ -12,7 +13,7 @@ ghost use Rattle.local_sets.specs.Parts.{EffectRowsOf, OpposedIn, AlikeAt, Oppos
 ghost use Rattle.sets.specs.Local.{local_of};
 
 // The tests of a body: which blocks they are, and each block's variable, relation by jump and by fall, and constant.
-#[derive(Drop)]
+#[derive(Clone, Copy)]
 struct Tests {
     tests: u64,
     variable: [u8; 64],
@@ -22,7 +23,7 @@ struct Tests {
 }
 
 // The blocks of a body by columns: the tests, where the ways lead, and how many effects each block has.
-#[derive(Drop)]
+#[derive(Clone, Copy)]
 struct Columns {
     tests: Tests,
     targets: sets::Targets,
@@ -31,7 +32,7 @@ struct Columns {
 
 // For each effect of a body the tests on its variable, and of those the ones whose edge by jump, and by fall, it
 // denies.
-#[derive(Drop)]
+#[derive(Clone, Copy)]
 struct Marks {
     on: [u64; 256],
     jump: [u64; 256],
@@ -39,7 +40,7 @@ struct Marks {
 }
 
 // The tests that a block touches, and those whose jump or fall edge its last effect on their variable denies.
-#[derive(Drop)]
+#[derive(Clone, Copy)]
 struct Hits {
     touched: u64,
     jump: u64,
@@ -47,7 +48,7 @@ struct Hits {
 }
 
 // For each block, the tests that it touches and the edges that its effects deny.
-#[derive(Drop)]
+#[derive(Clone, Copy)]
 struct EffectRows {
     touched: [u64; 64],
     denied: sets::Edges,

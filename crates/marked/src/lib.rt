@@ -1,1 +1,2 @@
 // The trainer's marked cases: mathematics only, no function stands here. The table and its claim are in specs/.
+#![tactic(auto)]

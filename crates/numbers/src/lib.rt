@@ -1,5 +1,6 @@
 // What the calls for C answer with: the structs of numbers, and each made of the answer of the layer below. 0 as number
 // is no refusal. What each number says is in specs/Answer.antt.
+#![tactic(auto)]
 ghost use Rattle.std.specs.Prelude.{◌≡◌};
 ghost use Rattle.walk.specs.Answer.{said};
 ghost use Rattle.numbers.specs.Answer.{count_values, count_said, walk_numbers, walk_values, sweep_numbers, sweep_values, sweep_said, list_numbers, form_answer, verdict_answer, written_answer};
@@ -12,7 +13,7 @@ use walk::WalkAnswer;
 
 // A refusal's number and place; number 0: none.
 #[repr(C)]
-#[derive(Drop)]
+#[derive(Clone, Copy)]
 pub struct FormAnswer {
     pub number: u64,
     pub place: u64,
@@ -20,7 +21,7 @@ pub struct FormAnswer {
 
 // The same with a loop count; what an answer does not have is zero.
 #[repr(C)]
-#[derive(Drop)]
+#[derive(Clone, Copy)]
 pub struct CountAnswer {
     pub number: u64,
     pub place: u64,
@@ -29,7 +30,7 @@ pub struct CountAnswer {
 
 // The numbers of the conflict list.
 #[repr(C)]
-#[derive(Drop)]
+#[derive(Clone, Copy)]
 pub struct ListNumbers {
     pub number: u64,
     pub place: u64,
@@ -38,7 +39,7 @@ pub struct ListNumbers {
 
 // The numbers of the full walk.
 #[repr(C)]
-#[derive(Drop)]
+#[derive(Clone, Copy)]
 pub struct WalkNumbers {
     pub number: u64,
     pub place: u64,
@@ -52,7 +53,7 @@ pub struct WalkNumbers {
 
 // The numbers of the sweep.
 #[repr(C)]
-#[derive(Drop)]
+#[derive(Clone, Copy)]
 pub struct SweepNumbers {
     pub number: u64,
     pub place: u64,

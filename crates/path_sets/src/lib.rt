@@ -1,6 +1,7 @@
 // What paths join of a body: from what its blocks say by themselves (sets' Local) the sets of edges that the walks
 // need, and for each edge the firsts that the conflict list pairs with it. Clean paths to all tests are found at once,
 // a word for each block. The meaning is in sets' Found and in form's Conflict.
+#![tactic(auto)]
 ghost use Rattle.std.specs.Prelude.{◌≡◌, ◌&&◌, ◌||◌, ℕ, ◌<◌, length, get_or};
 ghost use Rattle.laws.specs.Terms.{bit};
 ghost use Rattle.words.specs.Filled.{Told};
@@ -10,7 +11,7 @@ ghost use Rattle.path_sets.specs.Parts.{Ways, LeadsOf, ListedAt, PutAt, BothAt, 
 
 // For each block, the tests to which a clean path leads from where its jump leads, and from where its fall leads; and
 // both together with its own. Blocks that are no tests stand among them: no edge of theirs is ever denied or opposed.
-#[derive(Drop)]
+#[derive(Clone, Copy)]
 struct Leads {
     jump: [u64; 64],
     fall: [u64; 64],

@@ -1,5 +1,6 @@
 // What both ways start from. The plan of a body: what the walks need of each block, 16 words a block (theory's Plan),
 // from the body's costs and the sets of its conflicts.
+#![tactic(auto)]
 ghost use Rattle.std.specs.Prelude.{◌≡◌, ◌+◌, ◌*◌, ◌≤◌, ◌<◌, eqb, length};
 ghost use Rattle.lent.specs.Adding.{Adds};
 ghost use Rattle.form.specs.Conflict.{Sound};
@@ -76,7 +77,7 @@ pub fn plan_of(body: form::Body) -> [u64; 1024]
 
 // The plan of a form's body, with the number of its blocks and its loop count; or, with no block, the refusal's number
 // and place. Number 0: no refusal.
-#[derive(Drop)]
+#[derive(Clone, Copy)]
 pub struct Prepared {
     pub number: u32,
     pub place: usize,

@@ -1,5 +1,6 @@
 // Rows in local memory, as numbers: a step in front of a tail, the row of the last block, and the row of a block made
 // of its targets' rows. How an entry lies in a row's words is known in crate entries alone.
+#![tactic(auto)]
 ghost use Rattle.std.specs.Prelude.{◌≡◌, cond, ◌+◌, ◌^◌, ◌<◌, ◌≤◌, length};
 ghost use Rattle.entries.specs.Entries.{entries_from, Grown};
 ghost use Rattle.entries.specs.Structs.{words_in, tuple_of, struct_at};
@@ -12,7 +13,7 @@ use entries::{Entry, Way};
 // One half of a step in front of tails, which leaves a block by a way: of the jump edges, or of the fall edges, those
 // that it conflicts with, those that the block's effects deny, its own where the block tests, those that stay open; and
 // its block, where it is left by this half's way.
-#[derive(Drop)]
+#[derive(Clone, Copy)]
 struct Half {
     against: u64,
     denied: u64,
@@ -95,7 +96,7 @@ fn add_tail(jumps: Half, falls: Half, cost: u64, tail: Entry, row: &mut [u64], h
 }
 
 // How many tails a block has to choose from, by jump or go and by fall.
-#[derive(Drop)]
+#[derive(Clone, Copy)]
 pub struct Tails {
     pub jumps: usize,
     pub falls: usize,

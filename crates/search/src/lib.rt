@@ -2,6 +2,7 @@
 // makes a conflict is not taken. What its words and turns mean is in specs/Terms.antt. What goes down the recursion is
 // plain words, and the routes kept stand in lent words: so a step is a few registers, and no struct is copied down or
 // back.
+#![tactic(auto)]
 ghost use Rattle.std.specs.Prelude.{◌≡◌, cond, ◌+◌, ◌^◌, ◌<◌, eqb};
 ghost use Rattle.std.proofs.Math.Option.{none, some};
 ghost use Rattle.laws.specs.Terms.{Choice, bit, preferred};
@@ -15,7 +16,7 @@ ghost use Rattle.search.specs.Terms.{is_open, Walks, Searched};
 use entries::Way;
 
 // The banned edges: those by jump or go, those by fall.
-#[derive(Drop)]
+#[derive(Clone, Copy)]
 struct Banned {
     jumps: u64,
     falls: u64,

@@ -2,14 +2,15 @@
 // they are of a body. No function: the crate local_sets finds what blocks say by themselves (Local), the crate
 // path_sets what paths join (Found, and its Sets). Where each block's jump and fall lead; 64 where it has no such
 // way.
-#[derive(Drop)]
+#![tactic(auto)]
+#[derive(Clone, Copy)]
 pub struct Targets {
     pub jump: [usize; 64],
     pub fall: [usize; 64],
 }
 
 // For each block a set of edges: those by jump and those by fall.
-#[derive(Drop)]
+#[derive(Clone, Copy)]
 pub struct Edges {
     pub jump: [u64; 64],
     pub fall: [u64; 64],
@@ -18,7 +19,7 @@ pub struct Edges {
 // What a body's blocks, effects and edges say by themselves, with no path looked at: where
 // each block's ways lead; the tests that it touches; the edges that its effects deny; the edges that its edge by
 // jump, and that by fall, conflicts with; and its variable.
-#[derive(Drop)]
+#[derive(Clone, Copy)]
 pub struct Local {
     pub targets: Targets,
     pub touched: [u64; 64],
@@ -31,7 +32,7 @@ pub struct Local {
 // What the walks need of a body: where each block's ways lead; the tests that it touches; the edges that its effects
 // deny; the edges that its edge by jump, and that by fall, conflicts with; and those that the conflict list pairs
 // with a first below it.
-#[derive(Drop)]
+#[derive(Clone, Copy)]
 pub struct Sets {
     pub targets: Targets,
     pub touched: [u64; 64],
@@ -43,7 +44,7 @@ pub struct Sets {
 
 // For each block's edge by one way, the blocks that the conflict list pairs with it as firsts: by assignment, by
 // their jump edge and by their fall edge.
-#[derive(Drop)]
+#[derive(Clone, Copy)]
 pub struct Firsts {
     pub assigned: [u64; 64],
     pub jump: [u64; 64],
@@ -52,7 +53,7 @@ pub struct Firsts {
 
 // All that is found of a body: the sets, and for the conflict list each block's variable and the firsts of its edges
 // by jump and by fall.
-#[derive(Drop)]
+#[derive(Clone, Copy)]
 pub struct Found {
     pub sets: Sets,
     pub variable: [u8; 64],

@@ -1,6 +1,7 @@
 // The sweep's steps over rows of numbers, and what the sweep owes (specs/Answer.antt): which rows a block's row is made
 // of, the row itself, what follows it, and the answer from row 0. Nothing here has a slice of structs, and all is
 // covered; crate sweep puts these steps together over the lent table.
+#![tactic(auto)]
 ghost use Rattle.std.specs.Prelude.{◌≡◌, ℕ, max, min, ◌-◌, ◌*◌, ◌^◌, ◌<◌, ◌≤◌, length, get_or};
 ghost use Rattle.laws.specs.Terms.{Choice};
 ghost use Rattle.theory.specs.Plan.{cost_limit};
@@ -19,7 +20,7 @@ use rows::Tails;
 
 // Where the drive stands: whether it goes on, the blocks to come, the longest row so far, the length of the last row
 // made, and that of each row that is complete.
-#[derive(Drop)]
+#[derive(Clone, Copy)]
 pub struct Drive {
     pub going: bool,
     pub b: usize,
@@ -30,7 +31,7 @@ pub struct Drive {
 
 // What the next block's row is made of: the block, and by each way the first entry of the target's row and how many it
 // has.
-#[derive(Drop)]
+#[derive(Clone, Copy)]
 pub struct Sources {
     pub b: usize,
     pub jump: usize,
@@ -40,7 +41,7 @@ pub struct Sources {
 }
 
 // A row that is made: how many entries it has, or 65 where it is crowded; where it goes and how many entries of it.
-#[derive(Drop)]
+#[derive(Clone, Copy)]
 pub struct Built {
     pub held: usize,
     pub from: usize,
@@ -185,7 +186,7 @@ pub fn following_of(at: Drive, found: usize) -> Drive
 }
 
 // What the rows came to: the highest crowded block, or the longest row and the length of row 0.
-#[derive(Drop)]
+#[derive(Clone, Copy)]
 pub enum Swept {
     Crowded(usize),
     Rows { kept: usize, found: usize },
@@ -206,7 +207,7 @@ pub fn finish(at: Drive) -> Swept
 
 // The sweep's answer: the loop count, the weight of the first heaviest route and count times it, the weight of the
 // first lightest route and count times it, and the longest row; or the refusal's number and place.
-#[derive(Drop)]
+#[derive(Clone, Copy)]
 pub enum SweepAnswer {
     Routed {
         iterations: u64,

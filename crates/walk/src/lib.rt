@@ -1,5 +1,6 @@
 // The full walk, for any bytes: from the plan, by the search over its words (crate search), to the answer. What is owed
 // is in specs/Answer.antt.
+#![tactic(auto)]
 ghost use Rattle.std.specs.Prelude.{◌≡◌, ℕ, ◌<◌};
 ghost use Rattle.form.specs.declared.Body.{Body};
 ghost use Rattle.form.specs.Conflict.{Sound};
@@ -10,7 +11,7 @@ ghost use Rattle.walk.specs.declared.WalkAnswer.TheVariants.{Refused};
 // The full walk's answer: the loop count, the weight of the first heaviest route and count times it, the weight of the
 // first lightest route and count times it, and the number of conflict-free beginnings; or the refusal's number and
 // place.
-#[derive(Drop)]
+#[derive(Clone, Copy)]
 pub enum WalkAnswer {
     Walked {
         iterations: u64,
