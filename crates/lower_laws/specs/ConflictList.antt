@@ -224,6 +224,7 @@ exits_ordered body b =
     (only_two fall, (λ y m. absurd m, tt)) (block body b).ending
   where
     only_two : (fall : ℕ) (y : ℕ × ℕ) → Mem y ((2, fall) ∷ []) → ltb 1 y.0 ≡ true
+    only_two fall y (inr x') = elim x' [ ]
     only_two fall y (inl e) = rw e
 
 less : (a b : ℕ) (rest : Bool) → ltb a b ≡ true → next (ltb a b) (ltb b a) rest ≡ true
@@ -239,6 +240,8 @@ module _ (body : Body) where
   assignment_is e b p m = by (assigned body b e) m
     where
       by : (c : Bool) → Mem p (cond c (assignment_pair body e b ∷ []) []) → p ≡ assignment_pair body e b
+      by false x' = elim x' [ ]
+      by true (inr x3) = elim x3 [ ]
       by true (inl q) = q
 
   edge_is : (e : Edge) (b : ℕ) (o : ℕ × ℕ) (p : Pair) → Mem p (cond (crossed body b o e) (edge_pair e b o ∷ []) [])
@@ -246,6 +249,8 @@ module _ (body : Body) where
   edge_is e b o p m = by (crossed body b o e) m
     where
       by : (c : Bool) → Mem p (cond c (edge_pair e b o ∷ []) []) → p ≡ edge_pair e b o
+      by false x' = elim x' [ ]
+      by true (inr x3) = elim x3 [ ]
       by true (inl q) = q
 
   alone : (c : Bool) (p : Pair) → Sorted ascends (cond c (p ∷ []) [])

@@ -40,10 +40,12 @@ module _ (body : Body) where
       (λ o m. absurd m) one two (block body b).ending
     where
       one : {to : ℕ} (o : ℕ × ℕ) → Mem o ((1, to) ∷ []) → Way o.0
+      one {to = to} o (inr x') = elim x' [ ]
       one o (inl p) = inl (ap (λ (q : ℕ × ℕ). q.0) p)
 
       two : {to next : ℕ} (o : ℕ × ℕ) → Mem o ((1, to) ∷ (2, next) ∷ []) → Way o.0
       two o (inl p) = inl (ap (λ (q : ℕ × ℕ). q.0) p)
+      two {to = to} {next = next} o (inr (inr x'')) = elim x'' [ ]
       two o (inr (inl p)) = inr (ap (λ (q : ℕ × ℕ). q.0) p)
 
   -- an exit of the body
