@@ -269,10 +269,12 @@ at_targets P ending jump fall =
     (λ j f o m. both (j (omega arith)) (f (omega arith)) o m) (λ above h j f o m. absurd m) ending
   where
     one : P jump → (o : ℕ × ℕ) → Mem o ((1, jump) ∷ []) → P o.1
+    one j o (inr x') = elim x' [ ]
     one j o (inl e) = subst (λ (q : ℕ × ℕ). P q.1) (sym e) j
 
     both : P jump → P fall → (o : ℕ × ℕ) → Mem o ((1, jump) ∷ (2, fall) ∷ []) → P o.1
     both j f o (inl e) = subst (λ (q : ℕ × ℕ). P q.1) (sym e) j
+    both j f o (inr (inr x'')) = elim x'' [ ]
     both j f o (inr (inl e)) = subst (λ (q : ℕ × ℕ). P q.1) (sym e) f
 
 -- a block that does not end is left by jump
@@ -310,21 +312,26 @@ module _ (body : Body) (w : WellFormed body) where
 -- what holds of every place holds of every element
 module _ {A : Type 0} (P : A → Type 0) (z : A) where
   of_places : (l : List A) → ((i : ℕ) → P (get_or l i z)) → (x : A) → Mem x l → P x
+  of_places [] h x x4 = elim x4 [ ]
   of_places (y ∷ l) h x (inl e) = subst P (sym e) (h 0)
   of_places (y ∷ l) h x (inr m) = of_places l (λ i. h (suc i)) x m
 
   of_filled : (n : ℕ) (l : List A) → P z → ((i : ℕ) → P (get_or l i z)) → (x : A) → Mem x (fill z n l) → P x
   unfolding fill
+  of_filled zero l zero_too h x x5 = elim x5 [ ]
   of_filled (suc n) [] zero_too h x (inl e) = subst P (sym e) zero_too
   of_filled (suc n) [] zero_too h x (inr m) = of_filled n [] zero_too (λ i. zero_too) x m
   of_filled (suc n) (y ∷ l) zero_too h x (inl e) = subst P (sym e) (h 0)
   of_filled (suc n) (y ∷ l) zero_too h x (inr m) = of_filled n l zero_too (λ i. h (suc i)) x m
 
   taken : (n : ℕ) (l : List A) (x : A) → Mem x (take n l) → Mem x l
+  taken zero l x x3 = elim x3 [ ]
+  taken (suc n) [] x x6 = elim x6 [ ]
   taken (suc n) (y ∷ l) x (inl e) = inl e
   taken (suc n) (y ∷ l) x (inr m) = inr (taken n l x m)
 
   dropped : (n : ℕ) (l : List A) (x : A) → Mem x (drop n l) → Mem x l
+  dropped (suc n) [] x m = elim m [ ]
   dropped zero l x m = m
   dropped (suc n) (y ∷ l) x m = inr (dropped n l x m)
 

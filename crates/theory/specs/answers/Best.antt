@@ -43,6 +43,7 @@ module _ {B : Type 0} (prefers : ℕ → ℕ → Bool) where
 
   pub best_some : (l : List (ℕ × B)) (x : ℕ × B) → Mem x l → (u : ℕ × B) × (best prefers l ≡ some u)
   unfolding best
+  best_some [] x m = elim m [ ]
   best_some (y ∷ l) x m = one_chosen y (best prefers l)
 
   module _ (ch : Preference prefers) where
@@ -65,6 +66,7 @@ module _ {B : Type 0} (prefers : ℕ → ℕ → Bool) where
     pub best_most : (l : List (ℕ × B)) (v : ℕ × B) → best prefers l ≡ some v → (x : ℕ × B) → Mem x l
         → prefers x.0 v.0 ≡ false
     unfolding best
+    best_most [] v h x x4 = elim x4 [ ]
     best_most (y ∷ l) v h x (inl e) = rw e (chosen y (best prefers l) v h).0
     best_most (y ∷ l) v h x (inr m) =
         let (u, q) = best_some l x m in

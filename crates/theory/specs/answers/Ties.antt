@@ -44,6 +44,8 @@ one_target ending jump fall w u v =
     ending
   where
     one : Mem {A = ℕ × ℕ} (w, u) ((1, jump) ∷ []) → Mem {A = ℕ × ℕ} (w, v) ((1, jump) ∷ []) → u ≡ v
+    one (inl p) (inr x3) = elim x3 [ ]
+    one (inr x3) _ = elim x3 [ ]
     one (inl p) (inl q) = ap (λ (o : ℕ × ℕ). o.1) (p ∙ sym q)
 
     unlike : {a b : ℕ} → ◌≡◌ {A = ℕ × ℕ} (w, u) (1, a) → ◌≡◌ {A = ℕ × ℕ} (w, v) (2, b) → ⊥
@@ -55,6 +57,9 @@ one_target ending jump fall w u v =
     both : Mem {A = ℕ × ℕ} (w, u) ((1, jump) ∷ (2, fall) ∷ []) → Mem {A = ℕ × ℕ} (w, v) ((1, jump) ∷ (2, fall) ∷ [])
         → u ≡ v
     both (inl p) (inl q) = ap (λ (o : ℕ × ℕ). o.1) (p ∙ sym q)
+    both (inl p) (inr (inr x4)) = elim x4 [ ]
+    both (inr (inl p)) (inr (inr x7)) = elim x7 [ ]
+    both (inr (inr x6)) _ = elim x6 [ ]
     both (inl p) (inr (inl q)) = absurd (unlike p q)
     both (inr (inl p)) (inl q) = absurd (alike p q)
     both (inr (inl p)) (inr (inl q)) = ap (λ (o : ℕ × ℕ). o.1) (p ∙ sym q)

@@ -218,6 +218,8 @@ module _ (body : Body) (w : Onward body) {ruled_out : Path → Bool} {opens : �
         where
           by : (c : Bool) → eqb (suc b) body.count ≡ c → Mem e (cond c ((no_edges, (cost b 0, [])) ∷ []) [])
               → Leads body b e.1.1 (last_block body)
+          by false q x3 = elim x3 [ ]
+          by true q (inr x5) = elim x5 [ ]
           by true q (inl p) =
               let d : suc b ≡ body.count =
               eqb-true (suc b) body.count q in

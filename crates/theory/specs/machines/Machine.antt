@@ -248,6 +248,8 @@ module _ {K : Type 0} where
       where
         up : (c : Bool) (x y : K × Val) → Mem x (cond c ((M.start, (M.cost b 0, [])) ∷ []) [])
             → (q : ℕ × ℕ) × Mem q (M.outs b) × ((p : Path) × (y.1.1 ≡ (b, q.0) ∷ p)) → ahead x y ≡ true
+        up false x y x4 _ = elim x4 [ ]
+        up true x y (inr x7) _ = elim x7 [ ]
         up true x y (inl e) (q, k, (p, f)) = rw (e, f)
 
         one : (c : Bool) → Sorted ahead (cond c ((M.start, (M.cost b 0, [])) ∷ []) [])

@@ -6,7 +6,7 @@ use Rattle.std.proofs.Math.Path.{refl, sym, ap, ap₂}
 use Rattle.std.proofs.Common.{subst, ◌∙◌, eqb-true, eq-eqb}
 use Rattle.std.proofs.Math.Logic.{inl, inr}
 use Rattle.std.proofs.Math.Bool.{true, false}
-use mathlib.Core.List.{List, [], ◌∷◌, ◌++◌, map, map_append, map-map}
+use mathlib.Core.List.{List, [], ◌∷◌, ◌++◌, map, map-append, map-map}
 use Rattle.std.proofs.Math.Option.{Option, none, some}
 use Prim.Native.Nat.{ℕ, zero, suc, ◌+◌, ◌≤◌, ◌<◌}
 use native.Mathlib.Omega.{arith}
@@ -67,7 +67,7 @@ module _ (body : Body) (cost : ℕ → ℕ → ℕ) where
       → map path_of (visit_by free (λ t u. R t) b tt os) ≡ each os (λ o. map (λ p. (b, o.0) ∷ p) (P o.1))
   begin_by R P h b [] = refl
   begin_by R P h b (o ∷ os) =
-      map_append path_of (map (extend free b o.0) (R o.1)) (visit_by free (λ t u. R t) b tt os)
+      map-append path_of (map (extend free b o.0) (R o.1)) (visit_by free (λ t u. R t) b tt os)
       ∙ ap₂ ◌++◌ (map-map path_of (extend free b o.0) (R o.1) ∙ sym
       (map-map (λ (p : Path). (b, o.0) ∷ p) path_of (R o.1))
       ∙ ap (map (λ (p : Path). (b, o.0) ∷ p)) (h o.1)) (begin_by R P h b os)
@@ -88,7 +88,7 @@ module _ (body : Body) (cost : ℕ → ℕ → ℕ) where
   wholes_append : (l r : List (ℕ × Val)) → wholes (l ++ r) ≡ wholes l ++ wholes r
   wholes_append l r =
       ap (map (λ (e : ℕ × Val). e.1)) (only_append ending l r)
-      ∙ map_append (λ (e : ℕ × Val). e.1) (only ending l) (only ending r)
+      ∙ map-append (λ (e : ℕ × Val). e.1) (only ending l) (only ending r)
 
   wholes_extend : (b way : ℕ) (l : List (ℕ × Val))
       → wholes (map (extend free b way) l) ≡ map (grow (cost b way) (b, way)) (wholes l)
@@ -112,7 +112,7 @@ module _ (body : Body) (cost : ℕ → ℕ → ℕ) where
       wholes_append (map (extend free b o.0) (R o.1)) (visit_by free (λ t u. R t) b tt os)
       ∙ ap₂ ◌++◌ (wholes_extend b o.0 (R o.1) ∙ ap (map (grow (cost b o.0) (b, o.0))) (h o.1) ∙ weigh_step
       (b, o.0) (P o.1)) (whole_by R P h b os)
-      ∙ sym (map_append (weighed body cost) (map (λ (p : Path). (b, o.0) ∷ p) (P o.1))
+      ∙ sym (map-append (weighed body cost) (map (λ (p : Path). (b, o.0) ∷ p) (P o.1))
       (each os (λ o. map (λ p. (b, o.0) ∷ p) (P o.1))))
 
   ends_in : (b : ℕ) → suc b ≡ body.count → (cost b 0, []) ≡ weighed body cost []
@@ -220,6 +220,7 @@ module _ (body : Body) where
 
   pub beginnings_lead : (n b : ℕ) (p : Path) → Mem p (beginnings body n b) → (t : ℕ) × Leads body b p t
   unfolding beginnings
+  beginnings_lead zero b p x' = elim x' [ ]
   beginnings_lead (suc n) b p (inl e) = (b, rw e refl)
   beginnings_lead (suc n) b p (inr m) =
       let (u, q, i, on) = steps_out (beginnings body n) b p m in
@@ -228,10 +229,13 @@ module _ (body : Body) where
 
   ends : (c : Bool) (b : ℕ) (p : Path) → eqb (suc b) body.count ≡ c → Mem p (cond c ([] ∷ []) [])
       → Leads body b p (last_block body)
+  ends false b p h x'' = elim x'' [ ]
+  ends true b p h (inr x4) = elim x4 [ ]
   ends true b p h (inl e) = let d : suc b ≡ body.count = eqb-true (suc b) body.count h in rw e (omega arith)
 
   pub paths_lead : (n b : ℕ) (p : Path) → Mem p (paths body n b) → Leads body b p (last_block body)
   unfolding paths
+  paths_lead zero b p m = elim m [ ]
   paths_lead (suc n) b p m =
       go (paths_lead n) (mem_append p (cond (eqb (suc b) body.count) ([] ∷ []) []) (steps (paths body n) b) m)
     where

@@ -76,6 +76,7 @@ module _ {K : Type 0} (lt : K → K → Bool) (oK : Order lt) where
 
   keys_in_lem : (l : List K) (k : K) → Mem k l → Mem k (keys lt l)
   unfolding keys
+  keys_in_lem [] k x' = elim x' [ ]
   keys_in_lem (x ∷ l) k (inl p) = add_to x (keys lt l) k (inl p)
   keys_in_lem (x ∷ l) k (inr m) = add_to x (keys lt l) k (inr (keys_in_lem l k m))
 
@@ -168,6 +169,7 @@ module _ {K : Type 0} (lt : K → K → Bool) (oK : Order lt) (prefers : ℕ →
 
   found_from : (k : K) (o : Option Val) (l : List (K × Val)) → Picked k l o → (y : K × Val) → Mem y (found k o)
       → (y.0 ≡ k) × Ok l y
+  found_from k (some v) l g y (inr x'') = elim x'' [ ]
   found_from k none l g y m = absurd m
   found_from k (some v) l g y (inl p) = (ap (λ (z : K × Val). z.0) p, rw p g)
 

@@ -30,6 +30,7 @@ module _ {K B : Type 0} (lt : K → K → Bool) (bt : B → B → Bool) (oK : Or
 
       to : (x : K × B) → Mem x l ⊎ Mem x (e ∷ []) → Mem x (e ∷ l)
       to x (inl m) = inr m
+      to x (inr (inr x3)) = elim x3 [ ]
       to x (inr (inl p)) = inl p
 
   row_after : (l m r : List (K × B)) → Covers bt l m → IsRow lt bt m r → IsRow lt bt l r

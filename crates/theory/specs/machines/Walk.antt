@@ -5,7 +5,7 @@
 use Rattle.std.specs.Prelude.{◌≡◌, Bool, true, false, cond, eqb, ltb, length}
 use Rattle.std.proofs.Math.Path.{refl, sym, ap}
 use Rattle.std.proofs.Common.{ap₂, ◌∙◌, inl, inr, add-zero, zero-add, ltb-false, le-ltb, lt-ltb, ltb-true}
-use mathlib.Core.List.{List, [], ◌∷◌, ◌++◌, map, map_append, map-map}
+use mathlib.Core.List.{List, [], ◌∷◌, ◌++◌, map, map-append, map-map}
 use Rattle.std.proofs.Math.Option.{Option, none, some}
 use Prim.Native.Nat.{ℕ, zero, suc, ◌+◌, ◌≤◌, ◌<◌}
 use native.Mathlib.Omega.{arith}
@@ -113,7 +113,7 @@ module _ {S : Type 0} (M : Machine S) {C : Type 0} (advance : Edge → C → C) 
       ∙ then_same (fold_m visit a (map (carried advance c) (map (extend M b o.0) l))) _ _ (branch_is W R k b s c os)
       ∙ sym (fold_m_append visit a (map (carried advance c) (map (extend M b o.0) l))
       (map (carried advance c) (visit_by M R b s os)))
-      ∙ ap (fold_m visit a) (sym (map_append (carried advance c) (map (extend M b o.0) l) (visit_by M R b s os)))
+      ∙ ap (fold_m visit a) (sym (map-append (carried advance c) (map (extend M b o.0) l) (visit_by M R b s os)))
     where
       l : List (ℕ × Val)
       l = if_allowed M (M.step (b, o.0) s) (R o.1)

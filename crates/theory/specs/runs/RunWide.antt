@@ -148,6 +148,7 @@ module _ (body : Body) (b : ℕ) (s : State) (o : ℕ × ℕ) where
   go_left e = (λ l. to (subst (Mem o) (exits_of 1 e) l.exit), from)
     where
       to : Mem o (jumping ∷ []) → o ≡ jumping
+      to (inr x') = elim x' [ ]
       to (inl p) = p
 
       from : o ≡ jumping → Leaves body b s o
@@ -163,6 +164,7 @@ module _ (body : Body) (b : ℕ) (s : State) (o : ℕ × ℕ) where
     where
       to : Mem o (jumping ∷ falling ∷ []) → (o ≡ jumping) ⊎ (o ≡ falling)
       to (inl p) = inl p
+      to (inr (inr x'')) = elim x'' [ ]
       to (inr (inl p)) = inr p
 
       among : (o ≡ jumping) ⊎ (o ≡ falling) → Mem o (jumping ∷ falling ∷ [])
@@ -195,6 +197,8 @@ module _ (body : Body) (b : ℕ) (s : State) (o : ℕ × ℕ) where
       to true h (inl p) j f = p
       to true h (inr (inl p)) j f = absurd (let z : ◌≡◌ {A = ℕ} 1 2 = sym (j h) ∙ way falling p in omega arith)
       to false h (inl p) j f = absurd (let z : ◌≡◌ {A = ℕ} 2 1 = sym (f h) ∙ way jumping p in omega arith)
+      to false h (inr (inr x8)) j f = elim x8 [ ]
+      to true h (inr (inr x7)) j f = elim x7 [ ]
       to false h (inr (inl p)) j f = p
 
       among : (c : Bool) → o ≡ cond c jumping falling → Mem o (jumping ∷ falling ∷ [])
@@ -308,6 +312,8 @@ module _ (body : Body) where
 
   whole_of : (starts : List State) (l : List (Path × ℕ)) → AllToTheEnd starts l → (r : Run body l) × (whole r ≡ true)
   unfolding whole
+  whole_of [] (x ∷ l) e = elim e [ ]
+  whole_of (s ∷ starts) [] e = elim e [ ]
   whole_of [] [] e = (rests, refl)
   whole_of (s ∷ starts) (x ∷ l) ((t, i), last, e) =
       let (r, w) = whole_of starts l e in
