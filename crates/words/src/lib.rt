@@ -1,6 +1,7 @@
 // Sets of small numbers as words of 64 bits, bit k for the number k: the operations that the crates above compute
 // with. Each says what every bit of its result is (`bit` of the laws), those past 63 included.
 #![tactic(auto)]
+
 ghost use Rattle.std.specs.Prelude.{◌≡◌, ◌&&◌, ◌||◌, not, ℕ, ◌<◌, eqb};
 ghost use Rattle.std.specs.Int.Count.{count_trailing_zeros};
 ghost use Rattle.laws.specs.Terms.{digit, bit};

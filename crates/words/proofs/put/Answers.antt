@@ -7,9 +7,7 @@ use lib.Bits.{bit_or}
 use lib.Dec.{eqb}
 use Rattle.laws.specs.Terms.{digit, bit}
 use Rattle.laws.specs.Sets.{shl_one, bit_with, bit_or_lem, bit_none}
-use borrow.Author.Rules.{rules}
-use Rattle.words.proofs.put.Statement.{statement}
-use Rattle.words.proofs.put.Tie as tie
+use Rattle.words.proofs.put.Goals as goal
 
 shifted : (test : Bool) (x k j : ℕ) → k < 64
     → bit (bit_or x ((digit test * 2 ^ k) % 2 ^ 64)) j ≡ bit x j || (test && eqb j k)
@@ -18,11 +16,8 @@ shifted false x k j h =
     ap (λ (z : ℕ). bit (bit_or x (z % 2 ^ 64)) j) (zero-mul (2 ^ k)) ∙ bit_or_lem x 0 j
     ∙ ap (λ (b : Bool). bit x j || b) (bit_none j)
 
-returns : tie.Need-returns
+pub returns : goal.returns
 returns c j =
-    let a = c.before.args in
-    ap (λ (d : ℕ). bit (bit_or a.x ((d * 2 ^ a.k) % 2 ^ 64)) j) c.digit-of.ensures
-    ∙ shifted a.test a.x a.k j c.before.requires
-
-pub put_spec : {M : Type 1} → statement M
-put_spec = tie.close (tie.spec (λ c κs. search rules) (λ c. search rules) returns)
+    let a = c.args in
+    ap (λ (d : ℕ). bit (bit_or a.x ((d * 2 ^ a.k) % 2 ^ 64)) j) c.digit_of.ensures
+    ∙ shifted a.test a.x a.k j c.requires

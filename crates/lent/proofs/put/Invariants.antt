@@ -1,0 +1,15 @@
+-- `put` meets its contract. The loop's invariant: the first j bytes are put. The measure is what is left of the bytes.
+use mathlib.Core.Path.{◌≡◌, refl, ap, ◌∙◌}
+use Prim.Native.Nat.{ℕ, ◌+◌, ◌≤◌, ◌-◌}
+use native.Mathlib.Omega.{arith}
+use lib.ListN.{length, take}
+use lib.Seq.{take-length}
+use Rattle.lent.specs.Adding.{Adds, told, copied, as_long}
+use Rattle.lent.proofs.put.Given as goal
+
+abbrev pub invariant-loop-j : goal.invariant-loop-j
+invariant-loop-j l =
+    Adds l.initial.out l.at l.out (l.at + l.j) (take l.j l.bytes) × ((l.j ≤ length l.bytes) × (length l.out ≡ length l.initial.out))
+
+abbrev pub decreases-loop-j : goal.decreases-loop-j
+decreases-loop-j l = length l.bytes - l.j
