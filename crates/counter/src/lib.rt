@@ -1,6 +1,7 @@
 // The counter of document 01: how often the body of a counted loop runs, in closed form. Numbers of 32 bits are worked
 // on at 64, where a difference of two, a negation and one more step still fit.
 #![tactic(auto)]
+
 ghost use Rattle.std.specs.Prelude.{◌≡◌, ◌/◌, ◌%◌, ◌<◌, eqb, pos, neg_ℤ, ◌-ℤ◌};
 ghost use Rattle.laws.specs.Whole.{up, dn};
 ghost use Rattle.form.specs.Relation.{meets};

@@ -1,6 +1,7 @@
 // A body laid out: the bytes of its records, one after the other, in lent bytes. Offsets of fields stand here and where
 // a record is decoded (crate records), and nowhere else. What bytes a body is laid out as is in form's Form.
 #![tactic(auto)]
+
 ghost use Rattle.std.specs.Prelude.{◌≡◌, true, ◌++◌, ◌+◌, ◌*◌, ◌≤◌, length, take, drop};
 ghost use Rattle.std.specs.Int.{w32};
 ghost use Rattle.std.proofs.Common.{of_z};

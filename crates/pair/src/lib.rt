@@ -1,6 +1,7 @@
 // The pair test of document 01: whether two conditions on one variable conflict. Constants are compared, never
 // subtracted; the meaning is in specs/Pair.antt and in form's Conflict.
 #![tactic(auto)]
+
 ghost use Rattle.std.specs.Prelude.{◌≡◌};
 ghost use Rattle.std.specs.Int.Signed.{lt_z};
 ghost use Rattle.lower_laws.specs.PairTest.{low, level, high, apart, some_of};

@@ -2,6 +2,7 @@
 // counter, a block or an effect. Offsets of fields stand here and where a record is laid out (crate layout), and
 // nowhere else. What each function means is in form's Form.
 #![tactic(auto)]
+
 ghost use Rattle.std.specs.Prelude.{◌≡◌, ◌+◌, ◌<◌, ◌≤◌, ◌^◌, length};
 ghost use Rattle.std.specs.Int.{w32};
 ghost use Rattle.std.proofs.Common.{to_z};

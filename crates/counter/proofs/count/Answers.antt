@@ -1,0 +1,38 @@
+-- `counter::count` meets its contract.
+use mathlib.Core.Path.{refl, sym, ◌∙◌, subst}
+use mir.Facts.{to_z-of_z}
+use Rattle.form.specs.Counter.{Count}
+use Rattle.lower_laws.specs.Steps.{Found, found_none, found_some}
+use Rattle.lower_laws.specs.Loops.{count_of, count_found}
+use Rattle.counter.specs.Answer.{no_relation, no_count, counted}
+use Rattle.counter.proofs.count.Goals as goal
+use Rattle.counter.proofs.count.Goals.{After-passes-k}
+
+pub returns-then-relation-gt5 : goal.returns-then-relation-gt5
+returns-then-relation-gt5 c = no_relation c.if-relation-gt5.true refl
+
+found : (c : After-passes-k)
+    → Found (Count c.args.initial c.args.step
+    c.args.relation c.args.limit) c.passes-k.result
+found c =
+    let s = c.before.before in
+    let P = Count s.args.initial s.args.step s.args.relation s.args.limit in
+    let e = c.passes-k.ensures ∙ (λ i. count_of (to_z-of_z s.ranges.initial i) (to_z-of_z s.ranges.step i)
+    s.args.relation (to_z-of_z s.ranges.limit i)) in
+    subst (Found P) (sym e) (count_found s.args.initial s.ranges.initial s.args.relation s.args.limit
+    s.args.step)
+
+pub returns-then-k-eq0 : goal.returns-then-k-eq0
+returns-then-k-eq0 c =
+    let s = c.before.before.before in
+    no_count c.if-relation-gt5.false
+    (found_none (Count s.args.initial s.args.step s.args.relation s.args.limit)
+    c.passes-k.result c.if-k-eq0.true (found c.before)) refl
+
+pub returns-else-k-eq0 : goal.returns-else-k-eq0
+returns-else-k-eq0 c =
+    let s = c.before.before.before in
+    let k = c.passes-k.result in
+    counted c.if-relation-gt5.false k
+    (found_some (Count s.args.initial s.args.step s.args.relation s.args.limit) k c.if-k-eq0.false
+    (found c.before)) refl

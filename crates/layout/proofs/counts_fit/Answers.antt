@@ -1,0 +1,50 @@
+-- `layout::counts_fit` meets its contract.
+use mathlib.Core.Path.{◌≡◌, sym, ◌∙◌}
+use Prim.Native.Nat.{suc, ◌+◌, ◌≤◌, ◌-◌}
+use native.Mathlib.Numerals.{add-one}
+use native.Mathlib.Omega.{arith}
+use borrow.Author.Tests.{ne_eqb}
+use lib.ListN.{get_or, take, drop}
+use lib.Seq.{get_or-take}
+use Rattle.form.specs.Form.{sum_own, zero_block}
+use Rattle.form.specs.Laying.{over_blocks, over_effects, within_counts, sum_step, sum_end, lacks}
+use Rattle.layout.proofs.counts_fit.Goals as goal
+use Rattle.layout.proofs.counts_fit.Goals.{In-loop-k}
+
+pub returns-then-count-gt64 : goal.returns-then-count-gt64
+returns-then-count-gt64 c = over_blocks _ c.if-count-gt64.true
+
+pub returns-then-total-gt256 : goal.returns-then-total-gt256
+returns-then-total-gt256 c = over_effects _ c.if-total-gt256.true
+
+-- a turn's block in the sum of those to come
+turn :
+    (c : In-loop-k) → let body = c.args.body in
+    let k = c.loop-k.k in
+    sum_own (drop k (take body.count body.blocks))
+    ≡ (get_or body.blocks k zero_block).effects + sum_own (drop (suc k) (take body.count body.blocks))
+turn c =
+    let body = c.args.body in
+    rw (← get_or-take body.count body.blocks c.loop-k.k zero_block c.loop-k-test.true)
+    (sum_step (take body.count body.blocks) c.loop-k.k)
+
+pub returns-then-left-own : goal.returns-then-left-own
+returns-then-left-own c =
+    let start = c.before.before.before.before in
+    let body = start.args.body in
+    sym
+    (within_counts _ start.if-count-gt64.false start.if-total-gt256.false
+    ∙ ne_eqb (sum_own (take body.count body.blocks)) body.total (λ e. omega (arith, turn c.before)))
+
+pub loop-k-preserved : goal.loop-k-preserved
+loop-k-preserved c = rw (add-one c.loop-k.k) (omega (arith, turn c.before))
+
+pub returns-then-count-gt64 : goal.returns
+returns-then-count-gt64 c =
+    let start = c.before.before.before in
+    let body = start.args.body in
+    let all : c.loop-k.k ≡ body.count = omega arith in
+    let none : sum_own (drop c.loop-k.k (take body.count body.blocks)) ≡ 0 =
+    sum_end body.count c.loop-k.k all body.blocks in
+    lacks (sum_own (take body.count body.blocks)) c.loop-k.left body.total (omega arith)
+    ∙ sym (within_counts _ start.if-count-gt64.false start.if-total-gt256.false)

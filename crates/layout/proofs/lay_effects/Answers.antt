@@ -1,0 +1,50 @@
+-- `layout::lay_effects` meets its contract.
+use mathlib.Core.Path.{◌≡◌, sym, ap, ◌∙◌}
+use Prim.Native.Nat.{◌+◌, ◌*◌, ◌≤◌, ◌-◌, ◌<◌}
+use native.Mathlib.Omega.{arith}
+use lib.ListN.{length, take, drop, length-drop}
+use lib.Seq.{get_or-drop}
+use Rattle.form.specs.Form.{lay_effects, effect_bytes, zero_effect}
+use Rattle.form.specs.Laying.{effects_next, effects_none}
+use Rattle.lent.specs.Adding.{Adds, then, nothing, told}
+use Rattle.layout.proofs.lay_effects.Goals as goal
+use Rattle.layout.proofs.lay_effects.Goals.{After-effect_bytes-bytes}
+
+pub loop-j-init : goal.loop-j-init
+loop-j-init c = (
+  told (sym (effects_none (drop c.args.from c.args.effects))) (nothing _ _),
+  omega arith,
+)
+
+ten : (c : After-effect_bytes-bytes) → length c.effect_bytes-bytes.result ≡ 10
+ten c = ap length c.effect_bytes-bytes.ensures
+
+pub slice_bounds-put-end : goal.slice_bounds-put-end
+slice_bounds-put-end c = sym (ten c.before.before)
+
+pub put-to-requires : goal.put-to-requires
+put-to-requires c = omega (arith, ten c.before.before)
+
+pub loop-j-preserved : goal.loop-j-preserved
+loop-j-preserved c =
+    let copied = c.before.before in
+    let made = copied.before.before.before in
+    let at-loop = made.before.before.before in
+    let start = at-loop.before.before in
+    let rest = drop start.args.from start.args.effects in
+    let in-effects : at-loop.loop-j.j < length rest =
+    simp length-drop (omega (arith, start.well_formed.1.1.0.1.0.1)) in (
+      told (effects_next rest at-loop.loop-j.j _ in-effects
+          (made.effect_bytes-bytes.ensures
+          ∙ ap effect_bytes (sym (get_or-drop start.args.from start.args.effects at-loop.loop-j.j zero_effect))))
+          (then at-loop.loop-j.invariant.0 copied.put-to.ensures),
+      omega (arith, ten made, copied.put-to.ensures.end),
+    )
+
+pub shape_of-buf : goal.shape_of-buf
+shape_of-buf c = c.loop-j.invariant.1.1.1
+
+pub returns : goal.returns
+returns c =
+    let all : c.loop-j.j ≡ c.args.n = omega arith in
+    (omega arith, rw (← all) c.loop-j.invariant.0)
