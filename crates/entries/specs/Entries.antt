@@ -157,6 +157,7 @@ module _ (l : List ℕ) where
 
   pub entry_in_lem : (i n : ℕ) (e : Key × Both) → Mem e (entries_from l i n) → (k : ℕ) × (k < n) × (e ≡ entry_at l (i + k))
   unfolding entries_from
+  entry_in_lem i zero e x' = elim x' [ ]
   entry_in_lem i (suc n) e (inl p) = (0, omega arith, p ∙ ap (entry_at l) (sym (add-zero i)))
   entry_in_lem i (suc n) e (inr m) =
       let (k, b, p) = entry_in_lem (suc i) n e m in

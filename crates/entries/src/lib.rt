@@ -1,6 +1,7 @@
 // Entries in a row's words, in the order of their keys: one read and put by its place, and one put in where its key
 // belongs. Only `entry_at` and `put_entry` know how an entry lies in the words.
 #![tactic(auto)]
+
 ghost use Rattle.std.specs.Prelude.{◌≡◌, ◌&&◌, suc, ◌+◌, ◌*◌, ◌≤◌, eqb, ltb, length};
 ghost use Rattle.laws.specs.Terms.{preferred};
 ghost use Rattle.theory.specs.Row.{key_before};

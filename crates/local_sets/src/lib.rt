@@ -1,6 +1,7 @@
 // What a body's blocks, effects and edges say by themselves, as sets of edges in words: the part of its conflicts
 // that looks at no path. The meaning is in sets' Local and in form's Conflict.
 #![tactic(auto)]
+
 ghost use Rattle.std.specs.Prelude.{◌≡◌, ◌+◌, ◌≤◌, ltb, length};
 ghost use Rattle.form.specs.Form.{when};
 ghost use Rattle.form.specs.Conflict.{no_block};

@@ -2,6 +2,7 @@
 // need, and for each edge the firsts that the conflict list pairs with it. Clean paths to all tests are found at once,
 // a word for each block. The meaning is in sets' Found and in form's Conflict.
 #![tactic(auto)]
+
 ghost use Rattle.std.specs.Prelude.{◌≡◌, ◌&&◌, ◌||◌, ℕ, ◌<◌, length, get_or};
 ghost use Rattle.laws.specs.Terms.{bit};
 ghost use Rattle.words.specs.Filled.{Told};

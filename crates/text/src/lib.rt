@@ -1,6 +1,7 @@
 // The report's text, put together in lent bytes: each function adds to what stands there before `at`, and answers where
 // its text ends.
 #![tactic(auto)]
+
 ghost use Rattle.std.specs.Prelude.{◌≡◌, ◌+◌, ◌≤◌, length};
 ghost use Rattle.lent.specs.Adding.{Adds};
 ghost use Rattle.text.specs.Text.{decimal, line as lineText, refusal_line, letter_of, step as stepText, route_line};

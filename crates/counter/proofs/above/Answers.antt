@@ -16,13 +16,13 @@ quotient-requires c =
 
 is : (c : After-quotient) → c.quotient.result ≡ up c.args.gap / up c.args.step
 is c =
-    let s = c.before in
-    c.quotient.ensures ∙ (λ i. up (to_z-of_z s.ranges.gap i) / up (to_z-of_z s.ranges.step i))
+    
+    c.quotient.ensures ∙ (λ i. up (to_z-of_z c.ranges.gap i) / up (to_z-of_z c.ranges.step i))
 
 pub overflow_add-result : goal.overflow_add-result
 overflow_add-result c =
-    let s = c.before in
-    omega (arith, is c, div-le_self (up s.args.gap) (up s.args.step), sfits_up s.args.gap s.ranges.gap)
+    
+    omega (arith, is c, div-le_self (up c.args.gap) (up c.args.step), sfits_up c.args.gap c.ranges.gap)
 
 pub returns : goal.returns
 unfolding later

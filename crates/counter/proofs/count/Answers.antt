@@ -15,24 +15,24 @@ found : (c : After-passes-k)
     → Found (Count c.args.initial c.args.step
     c.args.relation c.args.limit) c.passes-k.result
 found c =
-    let s = c.before.before in
-    let P = Count s.args.initial s.args.step s.args.relation s.args.limit in
-    let e = c.passes-k.ensures ∙ (λ i. count_of (to_z-of_z s.ranges.initial i) (to_z-of_z s.ranges.step i)
-    s.args.relation (to_z-of_z s.ranges.limit i)) in
-    subst (Found P) (sym e) (count_found s.args.initial s.ranges.initial s.args.relation s.args.limit
-    s.args.step)
+    
+    let P = Count c.args.initial c.args.step c.args.relation c.args.limit in
+    let e = c.passes-k.ensures ∙ (λ i. count_of (to_z-of_z c.ranges.initial i) (to_z-of_z c.ranges.step i)
+    c.args.relation (to_z-of_z c.ranges.limit i)) in
+    subst (Found P) (sym e) (count_found c.args.initial c.ranges.initial c.args.relation c.args.limit
+    c.args.step)
 
 pub returns-then-k-eq0 : goal.returns-then-k-eq0
 returns-then-k-eq0 c =
-    let s = c.before.before.before in
+    
     no_count c.if-relation-gt5.false
-    (found_none (Count s.args.initial s.args.step s.args.relation s.args.limit)
-    c.passes-k.result c.if-k-eq0.true (found c.before)) refl
+    (found_none (Count c.args.initial c.args.step c.args.relation c.args.limit)
+    c.passes-k.result c.if-k-eq0.true (found (goal.at.returns-then-k-eq0 c).After-passes-k)) refl
 
 pub returns-else-k-eq0 : goal.returns-else-k-eq0
 returns-else-k-eq0 c =
-    let s = c.before.before.before in
+    
     let k = c.passes-k.result in
     counted c.if-relation-gt5.false k
-    (found_some (Count s.args.initial s.args.step s.args.relation s.args.limit) k c.if-k-eq0.false
-    (found c.before)) refl
+    (found_some (Count c.args.initial c.args.step c.args.relation c.args.limit) k c.if-k-eq0.false
+    (found (goal.at.returns-else-k-eq0 c).After-passes-k)) refl

@@ -14,15 +14,15 @@ use Rattle.counter.proofs.downward.Goals.{After-difference, After-difference-2, 
 -- what `within` is handed
 step_is : (c : After-negated) → up (to_z w64 (of_z w64 c.negated.result)) ≡ dn c.args.step
 step_is c =
-    let s = c.before in
-    ap up (handed c.negated.type_inv (c.negated.ensures ∙ ap neg_ℤ (to_z-of_z s.ranges.step))) ∙ up_neg s.args.step
+    
+    ap up (handed c.negated.type_inv (c.negated.ensures ∙ ap neg_ℤ (to_z-of_z c.ranges.step))) ∙ up_neg c.args.step
 
 gap_is : (c : After-difference)
     → to_z w64 (of_z w64 c.difference.result)
     ≡ c.args.initial -ℤ c.args.limit
 gap_is c =
-    let s = c.before.before.before in
-    widened_diff s.ranges.initial s.ranges.limit c.difference.type_inv c.difference.ensures
+    
+    widened_diff c.ranges.initial c.ranges.limit c.difference.type_inv c.difference.ensures
 
 room-is : (c : After-difference-2)
     → to_z w64 (of_z w64 c.difference-2.result) ≡ c.args.initial -ℤ smallest
@@ -32,14 +32,14 @@ room-is c =
 
 pub within-requires : goal.within-requires
 within-requires c =
-    let s = c.before.before.before.before in
-    rw (step_is c.before.before.before, room-is c) (s.requires, some_room_down s.args.initial s.ranges.initial)
+    
+    rw (step_is (goal.at.within-requires c).After-negated, room-is c) (c.requires, some_room_down c.args.initial c.ranges.initial)
 
 pub returns : goal.returns
 returns c =
-    let d = c.before in
-    let m = d.before.before in
-    let s = m.before.before in
-    c.within.ensures ∙ (λ i. within (step_is m.before i) (m.mirrored.ensures i) (gap_is d.before i)
-    (up (room-is d i))) ∙ sym (count_down s.args.initial s.args.step s.args.relation s.args.limit
-    s.requires)
+    
+    
+    
+    c.within.ensures ∙ (λ i. within (step_is (goal.at.returns c).After-negated i) (c.mirrored.ensures i) (gap_is (goal.at.returns c).After-difference i)
+    (up (room-is (goal.at.returns c).After-difference-2 i))) ∙ sym (count_down c.args.initial c.args.step c.args.relation c.args.limit
+    c.requires)

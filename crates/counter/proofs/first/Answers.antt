@@ -18,30 +18,30 @@ use Rattle.counter.proofs.first.Goals.{After-meets, Else-not-meets, Start}
 met : (c : After-meets) → c.meets.result ≡ meets c.args.relation (pos (up c.args.step))
     c.args.gap
 met c =
-    let s = c.before in
-    c.meets.ensures ∙ (λ i. meets s.args.relation
-    ((to_z-of_z s.ranges.step ∙ is_pos s.args.step (no_dn s.args.step s.requires)) i)
-    (to_z-of_z s.ranges.gap i))
+    
+    c.meets.ensures ∙ (λ i. meets c.args.relation
+    ((to_z-of_z c.ranges.step ∙ is_pos c.args.step (no_dn c.args.step c.requires)) i)
+    (to_z-of_z c.ranges.gap i))
 
 -- past the first test the relation holds after the first step, and what comes later is asked for
 holds : (c : Else-not-meets) → meets c.args.relation (pos (up c.args.step))
     c.args.gap ≡ true
-holds c = sym (met c.before) ∙ not-false _ c.if-not-meets.false
+holds c = sym (met c.before) ∙ c.if-not-meets.false
 
 comes-later : (c : Else-not-meets) → first (up c.args.step) c.args.relation
     c.args.gap ≡ later (up c.args.step) c.args.relation
     c.args.gap
 unfolding first
 comes-later c =
-    let s = c.before.before in
-    ap (λ (t : Bool). cond t (later (up s.args.step) s.args.relation s.args.gap) 1) (holds c)
+    
+    ap (λ (t : Bool). cond t (later (up c.args.step) c.args.relation c.args.gap) 1) (holds c)
 
 pub returns-then-not-meets : goal.returns-then-not-meets
 unfolding first
 returns-then-not-meets c =
-    let s = c.before.before in
-    ap (λ (t : Bool). cond t (later (up s.args.step) s.args.relation s.args.gap) 1)
-    (sym (not-true _ c.if-not-meets.true) ∙ met c.before)
+    
+    ap (λ (t : Bool). cond t (later (up c.args.step) c.args.relation c.args.gap) 1)
+    (sym (c.if-not-meets.true) ∙ met (goal.at.returns-then-not-meets c).After-meets)
 
 -- the same where the relation is known
 held : (c : Else-not-meets) (r : ℕ) → c.args.relation ≡ r
@@ -63,50 +63,50 @@ back s r i = later (up (to_z-of_z s.ranges.step i)) r (to_z-of_z s.ranges.gap i)
 
 pub exactly-requires : goal.exactly-requires
 exactly-requires c =
-    let s = c.before.before.before in
-    rw (to_z-of_z s.ranges.step) s.requires
+    
+    rw (to_z-of_z c.ranges.step) c.requires
 
 pub not_below-requires : goal.not_below-requires
 not_below-requires c =
-    let s = c.before.before.before in
-    rw (to_z-of_z s.ranges.step, to_z-of_z s.ranges.gap)
-    (s.requires, omega (arith, lt_z_true (pos (up s.args.step)) s.args.gap (held c.before 2 c.in-2.is)))
+    
+    rw (to_z-of_z c.ranges.step, to_z-of_z c.ranges.gap)
+    (c.requires, omega (arith, lt_z_true (pos (up c.args.step)) c.args.gap (held (goal.at.not_below-requires c).Else-not-meets 2 c.in-2.is)))
 
 pub above-requires : goal.above-requires
 above-requires c =
-    let s = c.before.before.before in
-    rw (to_z-of_z s.ranges.step, to_z-of_z s.ranges.gap) (
-      s.requires,
+    
+    rw (to_z-of_z c.ranges.step, to_z-of_z c.ranges.gap) (
+      c.requires,
       omega (
         arith,
-        s.requires,
-        le_z_true (pos (up s.args.step)) s.args.gap
-            (held c.before 5 c.in-5.is),
+        c.requires,
+        le_z_true (pos (up c.args.step)) c.args.gap
+            (held (goal.at.above-requires c).Else-not-meets 5 c.in-5.is),
       ),
     )
 
 pub returns-in-0 : goal.returns-in-0
 unfolding later
-returns-in-0 c = at c.before 0 c.in-0.is
+returns-in-0 c = at (goal.at.returns-in-0 c).Else-not-meets 0 c.in-0.is
 
 pub returns-in-1 : goal.returns-in-1
 returns-in-1 c =
-    let m = c.before in
-    c.exactly.ensures ∙ back m.before.before.before 1 ∙ at m.before 1 m.in-1.is
+    
+    c.exactly.ensures ∙ back (goal.at.returns-in-1 c).Start 1 ∙ at (goal.at.returns-in-1 c).Else-not-meets 1 c.in-1.is
 
 pub returns-in-2 : goal.returns-in-2
 returns-in-2 c =
-    let m = c.before in
-    c.not_below.ensures ∙ back m.before.before.before 2 ∙ at m.before 2 m.in-2.is
+    
+    c.not_below.ensures ∙ back (goal.at.returns-in-2 c).Start 2 ∙ at (goal.at.returns-in-2 c).Else-not-meets 2 c.in-2.is
 
 pub returns-in-5 : goal.returns-in-5
 returns-in-5 c =
-    let m = c.before in
-    c.above.ensures ∙ back m.before.before.before 5 ∙ at m.before 5 m.in-5.is
+    
+    c.above.ensures ∙ back (goal.at.returns-in-5 c).Start 5 ∙ at (goal.at.returns-in-5 c).Else-not-meets 5 c.in-5.is
 
 pub returns-in_default : goal.returns-in_default
 returns-in_default c =
-    let s = c.before.before.before in
-    let rest = c.in_default.rest in
-    sym (later_never (up s.args.step) s.args.relation s.args.gap rest.0.0.0.1 rest.0.0.1
-    rest.0.1 rest.1) ∙ sym (comes-later c.before)
+    
+    let rest = c.in_default.in_default-own.rest in
+    sym (later_never (up c.args.step) c.args.relation c.args.gap rest.0.0.0.1 rest.0.0.1
+    rest.0.1 rest.1) ∙ sym (comes-later (goal.at.returns-in_default c).Else-not-meets)

@@ -11,8 +11,8 @@ use Rattle.counter.proofs.negated.Goals.{After-wide}
 
 is : (c : After-wide) → pos 0 -ℤ to_z w64 (of_z w64 c.wide.result) ≡ neg_ℤ c.args.x
 is c =
-    let s = c.before in
-    ap (λ (z : ℤ). pos 0 -ℤ z) (widened s.ranges.x c.wide.type_inv c.wide.ensures) ∙ +ℤ_idl (neg_ℤ s.args.x)
+    
+    ap (λ (z : ℤ). pos 0 -ℤ z) (widened c.ranges.x c.wide.type_inv c.wide.ensures) ∙ +ℤ_idl (neg_ℤ c.args.x)
 
 pub overflow_sub-result : goal.overflow_sub-result
 overflow_sub-result c = rw (is c) (neg_fits c.args.x c.ranges.x)

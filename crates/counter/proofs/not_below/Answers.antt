@@ -34,12 +34,12 @@ is c = c.quotient.ensures ∙ (λ i. up (given c.before i) / up (to_z-of_z c.ran
 
 pub overflow_add-result : goal.overflow_add-result
 overflow_add-result c =
-    let s = c.before in
+    
     omega (
       arith,
       is c,
-      div-le_self (up s.args.gap - 1) (up s.args.step),
-      sfits_up s.args.gap s.ranges.gap,
+      div-le_self (up c.args.gap - 1) (up c.args.step),
+      sfits_up c.args.gap c.ranges.gap,
     )
 
 pub returns : goal.returns

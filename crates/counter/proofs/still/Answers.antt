@@ -10,16 +10,16 @@ use Rattle.counter.proofs.still.Goals.{After-meets-endless}
 met : (c : After-meets-endless) → c.meets-endless.result ≡ meets c.args.relation
     c.args.initial c.args.limit
 met c =
-    let s = c.before.before.before in
+    
     let from = c.wide in
     let to = c.wide-2 in
-    c.meets-endless.ensures ∙ (λ i. meets s.args.relation (widened s.ranges.initial from.type_inv from.ensures i)
-    (widened s.ranges.limit to.type_inv to.ensures i))
+    c.meets-endless.ensures ∙ (λ i. meets c.args.relation (widened c.ranges.initial from.type_inv from.ensures i)
+    (widened c.ranges.limit to.type_inv to.ensures i))
 
 pub returns-then-endless : goal.returns-then-endless
 unfolding count_of
-returns-then-endless c = ap (λ (t : Bool). cond t 0 1) (sym c.if-endless.true ∙ met c.before)
+returns-then-endless c = ap (λ (t : Bool). cond t 0 1) (sym c.if-endless.true ∙ met (goal.at.returns-then-endless c).After-meets-endless)
 
 pub returns-else-endless : goal.returns-else-endless
 unfolding count_of
-returns-else-endless c = ap (λ (t : Bool). cond t 0 1) (sym c.if-endless.false ∙ met c.before)
+returns-else-endless c = ap (λ (t : Bool). cond t 0 1) (sym c.if-endless.false ∙ met (goal.at.returns-else-endless c).After-meets-endless)

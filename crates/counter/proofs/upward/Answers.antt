@@ -28,13 +28,13 @@ room-is c =
 
 pub within-requires : goal.within-requires
 within-requires c =
-    let s = c.before.before.before in
-    rw (step_is c.before.before, room-is c) (s.requires, some_room_up s.args.initial s.ranges.initial)
+    
+    rw (step_is (goal.at.within-requires c).After-wide, room-is c) (c.requires, some_room_up c.args.initial c.ranges.initial)
 
 pub returns : goal.returns
 returns c =
-    let d = c.before in
-    let s = d.before.before.before in
-    c.within.ensures ∙ (λ i. within (up (step_is d.before.before i)) s.args.relation (gap_is d.before i)
-    (up (room-is d i))) ∙ sym (count_up s.args.initial s.args.step s.args.relation s.args.limit
-    s.requires)
+    
+    
+    c.within.ensures ∙ (λ i. within (up (step_is (goal.at.returns c).After-wide i)) c.args.relation (gap_is (goal.at.returns c).After-difference i)
+    (up (room-is (goal.at.returns c).After-difference-2 i))) ∙ sym (count_up c.args.initial c.args.step c.args.relation c.args.limit
+    c.requires)

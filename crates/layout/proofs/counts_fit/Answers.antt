@@ -30,21 +30,21 @@ turn c =
 
 pub returns-then-left-own : goal.returns-then-left-own
 returns-then-left-own c =
-    let start = c.before.before.before.before in
-    let body = start.args.body in
+    
+    let body = c.args.body in
     sym
-    (within_counts _ start.if-count-gt64.false start.if-total-gt256.false
-    ∙ ne_eqb (sum_own (take body.count body.blocks)) body.total (λ e. omega (arith, turn c.before)))
+    (within_counts _ c.if-count-gt64.false c.if-total-gt256.false
+    ∙ ne_eqb (sum_own (take body.count body.blocks)) body.total (λ e. omega (arith, turn (goal.at.returns-then-left-own c).In-loop-k)))
 
 pub loop-k-preserved : goal.loop-k-preserved
-loop-k-preserved c = rw (add-one c.loop-k.k) (omega (arith, turn c.before))
+loop-k-preserved c = rw (add-one c.loop-k.k) (omega (arith, turn (goal.at.loop-k-preserved c).In-loop-k))
 
-pub returns-then-count-gt64 : goal.returns
-returns-then-count-gt64 c =
-    let start = c.before.before.before in
-    let body = start.args.body in
+pub returns : goal.returns
+returns c =
+    
+    let body = c.args.body in
     let all : c.loop-k.k ≡ body.count = omega arith in
     let none : sum_own (drop c.loop-k.k (take body.count body.blocks)) ≡ 0 =
     sum_end body.count c.loop-k.k all body.blocks in
     lacks (sum_own (take body.count body.blocks)) c.loop-k.left body.total (omega arith)
-    ∙ sym (within_counts _ start.if-count-gt64.false start.if-total-gt256.false)
+    ∙ sym (within_counts _ c.if-count-gt64.false c.if-total-gt256.false)

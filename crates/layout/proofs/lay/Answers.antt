@@ -18,10 +18,10 @@ seventeen : (c : After-counter_bytes-first) → length c.counter_bytes-first.res
 seventeen c = ap length c.counter_bytes-first.ensures
 
 pub slice_bounds-put-end : goal.slice_bounds-put-end
-slice_bounds-put-end c = sym (seventeen c.before.before)
+slice_bounds-put-end c = sym (seventeen (goal.at.slice_bounds-put-end c).After-counter_bytes-first)
 
 pub put-at-requires : goal.put-at-requires
-put-at-requires c = omega (arith, seventeen c.before.before)
+put-at-requires c = omega (arith, seventeen (goal.at.put-at-requires c).After-counter_bytes-first)
 
 pub loop-k-init : goal.loop-k-init
 loop-k-init c = (refl, omega arith)
@@ -36,11 +36,11 @@ body c = (entry c).args.body
 -- the counter took 17 bytes
 began : (c : At-loop-k) → c.put-at.result ≡ 17
 began c =
-    let copied = c.before.before.before in
-    omega (arith, copied.put-at.ensures.end, seventeen copied.before.before.before)
+    
+    omega (arith, c.put-at.ensures.end, seventeen c.before.before.before.before.before.before)
 
-room : (c : At-loop-k) → 3665 ≤ length c.loop-k.buf-1
-room c = omega (arith, c.put-at.auto.0, (entry c).requires.1)
+room : (c : At-loop-k) → 3665 ≤ length c.loop-k.buf
+room c = omega (arith, c.put-at.auto.out, (entry c).requires.1)
 
 known : (c : At-loop-k)
     → ((body c).count ≤ 64) × (sum_own (take (body c).count (body c).blocks) ≤ 256)
@@ -64,28 +64,28 @@ module _ (c : In-loop-k) where
   inside : c.loop-k.k < length blocks
   inside = simp length-take (omega (arith, sixty-four c.before, known c.before))
 
-  sum : sum_own (drop c.loop-k.k blocks) ≡ block.effects-1 + sum_own (drop (suc c.loop-k.k) blocks)
+  sum : sum_own (drop c.loop-k.k blocks) ≡ block.effects + sum_own (drop (suc c.loop-k.k) blocks)
   sum = sum_step blocks c.loop-k.k
-      ∙ ap (λ (b : Block). b.effects-1 + sum_own (drop (suc c.loop-k.k) blocks)) here
+      ∙ ap (λ (b : Block). b.effects + sum_own (drop (suc c.loop-k.k) blocks)) here
 
 pub offset_bounds-blocks-k : goal.offset_bounds-blocks-k
-offset_bounds-blocks-k c = omega (arith, known c.before)
+offset_bounds-blocks-k c = omega (arith, known (goal.at.offset_bounds-blocks-k c).At-loop-k)
 
 pub bounds-blocks-k : goal.bounds-blocks-k
-bounds-blocks-k c = omega (arith, known c.before)
+bounds-blocks-k c = omega (arith, known (goal.at.bounds-blocks-k c).At-loop-k)
 
 pub lay_block-at-requires : goal.lay_block-at-requires
 lay_block-at-requires c =
-    let turn = c.before.before in
-    omega (arith, sum turn, known turn.before, began turn.before, room turn.before)
+    
+    omega (arith, sum (goal.at.lay_block-at-requires c).In-loop-k, known (goal.at.lay_block-at-requires c).At-loop-k, began (goal.at.lay_block-at-requires c).At-loop-k, room (goal.at.lay_block-at-requires c).At-loop-k)
 
 pub overflow_add-e : goal.overflow_add-e
 overflow_add-e c =
-    let turn = c.before.before.before.before.before.before in
-    omega (arith, sum turn, known turn.before)
+    
+    omega (arith, sum (goal.at.overflow_add-e c).In-loop-k, known (goal.at.overflow_add-e c).At-loop-k)
 
 pub overflow_add-k : goal.overflow_add-k
-overflow_add-k c = omega (arith, known c.before.before.before.before.before.before.before)
+overflow_add-k c = omega (arith, known (goal.at.overflow_add-k c).At-loop-k)
 
 pub loop-k-smaller : goal.loop-k-smaller
 loop-k-smaller c =
@@ -94,50 +94,50 @@ loop-k-smaller c =
 
 pub loop-k-preserved : goal.loop-k-preserved
 loop-k-preserved c =
-    let laid = c.before.before.before in
-    let turn = laid.before.before.before in
-    let loop = turn.loop-k in
-    let after : laid.lay_block-at.result ≤ length loop.buf-1 =
+    
+    
+    let loop = c.loop-k in
+    let after : c.lay_block-at.result ≤ length loop.buf =
     omega (
       arith,
-      sum turn,
-      known turn.before,
-      began turn.before,
-      room turn.before,
-      laid.lay_block-at.ensures.0,
+      sum (goal.at.loop-k-preserved c).In-loop-k,
+      known (goal.at.loop-k-preserved c).At-loop-k,
+      began (goal.at.loop-k-preserved c).At-loop-k,
+      room (goal.at.loop-k-preserved c).At-loop-k,
+      c.lay_block-at.ensures.0,
     ) in
     let whole =
-    blocks_laid (blocks turn) loop.k (body turn.before).effects-1 loop.e (inside turn) (block turn) (here turn)
-    (take loop.at loop.buf-1) (take laid.lay_block-at.result laid.lay_block-at.new.buf) _ loop.invariant.0
-    (up_to_end laid.lay_block-at.ensures.1 after) in
+    blocks_laid (blocks (goal.at.loop-k-preserved c).In-loop-k) loop.k (body (goal.at.loop-k-preserved c).At-loop-k).effects loop.e (inside (goal.at.loop-k-preserved c).In-loop-k) (block (goal.at.loop-k-preserved c).In-loop-k) (here (goal.at.loop-k-preserved c).In-loop-k)
+    (take loop.at loop.buf) (take c.lay_block-at.result c.lay_block-at.new.buf) _ loop.invariant.0
+    (up_to_end c.lay_block-at.ensures.1 after) in
     rw (add-one loop.k)
-    (whole, omega (arith, sum turn, laid.lay_block-at.ensures.0, laid.lay_block-at.auto.0, turn.loop-k-test.true))
+    (whole, omega (arith, sum (goal.at.loop-k-preserved c).In-loop-k, c.lay_block-at.ensures.0, c.lay_block-at.auto.buf, c.loop-k-test.true))
 
 pub shape_of-buf : goal.shape_of-buf
-shape_of-buf c = c.loop-k.invariant.1.1.1.1 ∙ c.put-at.auto.0
+shape_of-buf c = c.loop-k.invariant.1.1.1.1 ∙ c.put-at.auto.out
 
 -- where the loop begins the counter stands laid out
 counted : (c : At-loop-k)
     → take c.put-at.result c.put-at.new.out
     ≡ counter_bytes (body c).counter
 counted c =
-    let copied = c.before.before.before in
-    let made = copied.before.before.before in
-    up_to_end copied.put-at.ensures (omega (arith, copied.put-at.ensures.end, seventeen made, (entry c).requires.1))
-    ∙ made.counter_bytes-first.ensures
+    
+    
+    up_to_end c.put-at.ensures (omega (arith, c.put-at.ensures.end, seventeen c.before.before.before.before.before.before, (entry c).requires.1))
+    ∙ c.counter_bytes-first.ensures
 
 pub returns : goal.returns
 unfolding lay
 returns c =
-    let head = c.before in
-    let loop = head.loop-k in
-    let all : loop.k ≡ (body head).count = omega arith in
-    let none = sum_end (body head).count loop.k all (body head).blocks in
-    let small : loop.at ≤ 3665 = omega (arith, none, known head, began head) in
+    
+    let loop = c.loop-k in
+    let all : loop.k ≡ (body (goal.at.returns c).At-loop-k).count = omega arith in
+    let none = sum_end (body (goal.at.returns c).At-loop-k).count loop.k all (body (goal.at.returns c).At-loop-k).blocks in
+    let small : loop.at ≤ 3665 = omega (arith, none, known (goal.at.returns c).At-loop-k, began (goal.at.returns c).At-loop-k) in
     let laid =
-    blocks_end (body head).count loop.k all (body head).blocks (drop loop.e (body head).effects-1)
-    (take loop.at loop.buf-1) _
+    blocks_end (body (goal.at.returns c).At-loop-k).count loop.k all (body (goal.at.returns c).At-loop-k).blocks (drop loop.e (body (goal.at.returns c).At-loop-k).effects)
+    (take loop.at loop.buf) _
     loop.invariant.0
-    ∙ ap (λ (l : List ℕ). l ++ lay_blocks (take (body head).count (body head).blocks) (body head).effects-1)
-    (counted head) in
-    (sym (length-take-le loop.at loop.buf-1 (omega (arith, small, room head))) ∙ ap length laid, (small, laid))
+    ∙ ap (λ (l : List ℕ). l ++ lay_blocks (take (body (goal.at.returns c).At-loop-k).count (body (goal.at.returns c).At-loop-k).blocks) (body (goal.at.returns c).At-loop-k).effects)
+    (counted (goal.at.returns c).At-loop-k) in
+    (sym (length-take-le loop.at loop.buf (omega (arith, small, room (goal.at.returns c).At-loop-k))) ∙ ap length laid, (small, laid))

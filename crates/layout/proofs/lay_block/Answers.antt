@@ -7,9 +7,9 @@ use Rattle.layout.proofs.lay_block.Goals as goal
 
 pub returns : goal.returns
 returns c =
-    let laid = c.before.before in
-    let copied = laid.before.before.before.before in
-    let made = copied.before.before.before in (
-      omega (arith, ap length made.block_bytes-bytes.ensures),
-      then (told made.block_bytes-bytes.ensures copied.put-after.ensures) laid.lay_effects.ensures.1,
+    
+    
+    (
+      omega (arith, ap length c.block_bytes-bytes.ensures),
+      then (told c.block_bytes-bytes.ensures c.put-after.ensures) c.lay_effects.ensures.1,
     )

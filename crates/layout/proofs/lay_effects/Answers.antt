@@ -20,25 +20,25 @@ ten : (c : After-effect_bytes-bytes) → length c.effect_bytes-bytes.result ≡ 
 ten c = ap length c.effect_bytes-bytes.ensures
 
 pub slice_bounds-put-end : goal.slice_bounds-put-end
-slice_bounds-put-end c = sym (ten c.before.before)
+slice_bounds-put-end c = sym (ten (goal.at.slice_bounds-put-end c).After-effect_bytes-bytes)
 
 pub put-to-requires : goal.put-to-requires
-put-to-requires c = omega (arith, ten c.before.before)
+put-to-requires c = omega (arith, ten (goal.at.put-to-requires c).After-effect_bytes-bytes)
 
 pub loop-j-preserved : goal.loop-j-preserved
 loop-j-preserved c =
-    let copied = c.before.before in
-    let made = copied.before.before.before in
-    let at-loop = made.before.before.before in
-    let start = at-loop.before.before in
-    let rest = drop start.args.from start.args.effects in
-    let in-effects : at-loop.loop-j.j < length rest =
-    simp length-drop (omega (arith, start.well_formed.1.1.0.1.0.1)) in (
-      told (effects_next rest at-loop.loop-j.j _ in-effects
-          (made.effect_bytes-bytes.ensures
-          ∙ ap effect_bytes (sym (get_or-drop start.args.from start.args.effects at-loop.loop-j.j zero_effect))))
-          (then at-loop.loop-j.invariant.0 copied.put-to.ensures),
-      omega (arith, ten made, copied.put-to.ensures.end),
+    
+    
+    
+    
+    let rest = drop c.args.from c.args.effects in
+    let in-effects : c.loop-j.j < length rest =
+    simp length-drop (omega (arith, c.well_formed.1.1.0.1.0.1)) in (
+      told (effects_next rest c.loop-j.j _ in-effects
+          (c.effect_bytes-bytes.ensures
+          ∙ ap effect_bytes (sym (get_or-drop c.args.from c.args.effects c.loop-j.j zero_effect))))
+          (then c.loop-j.invariant.0 c.put-to.ensures),
+      omega (arith, ten (goal.at.loop-j-preserved c).After-effect_bytes-bytes, c.put-to.ensures.end),
     )
 
 pub shape_of-buf : goal.shape_of-buf

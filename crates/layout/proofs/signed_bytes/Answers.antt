@@ -40,5 +40,5 @@ overflow_sub-below-2 c =
     let small : (below c).0 ≤ 4294967295 = omega (arith, (below c).2) in
     rw (turned c) small
 
-pub returns-then-z-ge0 : goal.returns
-returns-then-z-ge0 c = rw (turned c.before) at c.bytes_of-2.ensures ∙ ap bytes_of (below c.before).3
+pub returns : goal.returns
+returns c = rw (turned (goal.at.returns c).Else-z-ge0) at c.bytes_of-2.ensures ∙ ap bytes_of (below (goal.at.returns c).Else-z-ge0).3
