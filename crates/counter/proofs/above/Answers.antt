@@ -16,12 +16,10 @@ quotient-requires c =
 
 is : (c : After-quotient) → c.quotient.result ≡ up c.args.gap / up c.args.step
 is c =
-    
     c.quotient.ensures ∙ (λ i. up (to_z-of_z c.ranges.gap i) / up (to_z-of_z c.ranges.step i))
 
 pub overflow_add-result : goal.overflow_add-result
 overflow_add-result c =
-    
     omega (arith, is c, div-le_self (up c.args.gap) (up c.args.step), sfits_up c.args.gap c.ranges.gap)
 
 pub returns : goal.returns

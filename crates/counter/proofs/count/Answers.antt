@@ -15,7 +15,6 @@ found : (c : After-passes-k)
     → Found (Count c.args.initial c.args.step
     c.args.relation c.args.limit) c.passes-k.result
 found c =
-    
     let P = Count c.args.initial c.args.step c.args.relation c.args.limit in
     let e = c.passes-k.ensures ∙ (λ i. count_of (to_z-of_z c.ranges.initial i) (to_z-of_z c.ranges.step i)
     c.args.relation (to_z-of_z c.ranges.limit i)) in
@@ -24,14 +23,12 @@ found c =
 
 pub returns-then-k-eq0 : goal.returns-then-k-eq0
 returns-then-k-eq0 c =
-    
     no_count c.if-relation-gt5.false
     (found_none (Count c.args.initial c.args.step c.args.relation c.args.limit)
     c.passes-k.result c.if-k-eq0.true (found (goal.at.returns-then-k-eq0 c).After-passes-k)) refl
 
 pub returns-else-k-eq0 : goal.returns-else-k-eq0
 returns-else-k-eq0 c =
-    
     let k = c.passes-k.result in
     counted c.if-relation-gt5.false k
     (found_some (Count c.args.initial c.args.step c.args.relation c.args.limit) k c.if-k-eq0.false

@@ -14,14 +14,12 @@ use Rattle.counter.proofs.downward.Goals.{After-difference, After-difference-2, 
 -- what `within` is handed
 step_is : (c : After-negated) → up (to_z w64 (of_z w64 c.negated.result)) ≡ dn c.args.step
 step_is c =
-    
     ap up (handed c.negated.type_inv (c.negated.ensures ∙ ap neg_ℤ (to_z-of_z c.ranges.step))) ∙ up_neg c.args.step
 
 gap_is : (c : After-difference)
     → to_z w64 (of_z w64 c.difference.result)
     ≡ c.args.initial -ℤ c.args.limit
 gap_is c =
-    
     widened_diff c.ranges.initial c.ranges.limit c.difference.type_inv c.difference.ensures
 
 room-is : (c : After-difference-2)
@@ -32,14 +30,10 @@ room-is c =
 
 pub within-requires : goal.within-requires
 within-requires c =
-    
     rw (step_is (goal.at.within-requires c).After-negated, room-is c) (c.requires, some_room_down c.args.initial c.ranges.initial)
 
 pub returns : goal.returns
 returns c =
-    
-    
-    
     c.within.ensures ∙ (λ i. within (step_is (goal.at.returns c).After-negated i) (c.mirrored.ensures i) (gap_is (goal.at.returns c).After-difference i)
     (up (room-is (goal.at.returns c).After-difference-2 i))) ∙ sym (count_down c.args.initial c.args.step c.args.relation c.args.limit
     c.requires)

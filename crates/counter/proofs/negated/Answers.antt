@@ -11,7 +11,6 @@ use Rattle.counter.proofs.negated.Goals.{After-wide}
 
 is : (c : After-wide) → pos 0 -ℤ to_z w64 (of_z w64 c.wide.result) ≡ neg_ℤ c.args.x
 is c =
-    
     ap (λ (z : ℤ). pos 0 -ℤ z) (widened c.ranges.x c.wide.type_inv c.wide.ensures) ∙ +ℤ_idl (neg_ℤ c.args.x)
 
 pub overflow_sub-result : goal.overflow_sub-result

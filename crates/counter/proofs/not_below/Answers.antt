@@ -34,7 +34,6 @@ is c = c.quotient.ensures ∙ (λ i. up (given c.before i) / up (to_z-of_z c.ran
 
 pub overflow_add-result : goal.overflow_add-result
 overflow_add-result c =
-    
     omega (
       arith,
       is c,

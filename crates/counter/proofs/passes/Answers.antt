@@ -12,13 +12,11 @@ use Rattle.counter.proofs.passes.Goals.{Else-step-lt0, Start}
 
 pub upward-requires : goal.upward-requires
 upward-requires c =
-    
     rw (to_z-of_z c.ranges.step) (omega
     (arith, lt_z_true (pos 0) c.args.step (rw (to_z-of_z c.ranges.step) at c.if-step-gt0.true)))
 
 pub downward-requires : goal.downward-requires
 downward-requires c =
-    
     rw (to_z-of_z c.ranges.step) (omega
     (arith, lt_z_true c.args.step (pos 0) (rw (to_z-of_z c.ranges.step) at c.if-step-lt0.true)))
 
@@ -38,12 +36,10 @@ returns-then-step-lt0 c = c.downward.ensures ∙ back (goal.at.returns-then-step
 -- neither test passed, so the step is 0
 no_step : (c : Else-step-lt0) → pos 0 ≡ to_z w32 (of_z w32 c.args.step)
 no_step c =
-    
     let z = to_z w32 (of_z w32 c.args.step) in
     same_whole (pos 0) z (omega (arith, lt_z_false (pos 0) z c.if-step-gt0.false, lt_z_false z (pos 0) c.if-step-lt0.false))
 
 pub returns-else-step-lt0 : goal.returns-else-step-lt0
 returns-else-step-lt0 c =
-    
     c.still.ensures ∙ ap (λ (z : ℤ). count_of (to_z w32 (of_z w32 c.args.initial)) z c.args.relation
     (to_z w32 (of_z w32 c.args.limit))) (no_step (goal.at.returns-else-step-lt0 c).Else-step-lt0) ∙ back (goal.at.returns-else-step-lt0 c).Start

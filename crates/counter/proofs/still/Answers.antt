@@ -10,7 +10,6 @@ use Rattle.counter.proofs.still.Goals.{After-meets-endless}
 met : (c : After-meets-endless) → c.meets-endless.result ≡ meets c.args.relation
     c.args.initial c.args.limit
 met c =
-    
     let from = c.wide in
     let to = c.wide-2 in
     c.meets-endless.ensures ∙ (λ i. meets c.args.relation (widened c.ranges.initial from.type_inv from.ensures i)

@@ -28,13 +28,10 @@ room-is c =
 
 pub within-requires : goal.within-requires
 within-requires c =
-    
     rw (step_is (goal.at.within-requires c).After-wide, room-is c) (c.requires, some_room_up c.args.initial c.ranges.initial)
 
 pub returns : goal.returns
 returns c =
-    
-    
     c.within.ensures ∙ (λ i. within (up (step_is (goal.at.returns c).After-wide i)) c.args.relation (gap_is (goal.at.returns c).After-difference i)
     (up (room-is (goal.at.returns c).After-difference-2 i))) ∙ sym (count_up c.args.initial c.args.step c.args.relation c.args.limit
     c.requires)

@@ -11,7 +11,6 @@ returns-then-prefers c = rw (sym c.prefers.ensures ∙ c.if-prefers.true)
 
 pub returns-then-prefers-2 : goal.returns-then-prefers-2
 returns-then-prefers-2 c =
-    
     rw (sym c.prefers.ensures ∙ c.if-prefers.false, sym c.prefers-2.ensures ∙ c.if-prefers-2.true)
 
 pub overflow_cast-one : goal.overflow_cast-one
@@ -22,8 +21,6 @@ overflow_cast-one c =
 pub returns : goal.returns
 unfolding earlier
 returns c =
-    
-    
     rw (
       sym c.prefers.ensures ∙ c.if-prefers.false,
       sym c.prefers-2.ensures ∙ c.if-prefers-2.false,

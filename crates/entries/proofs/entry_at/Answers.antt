@@ -6,8 +6,6 @@ use Rattle.entries.proofs.entry_at.Goals as goal
 
 pub returns : goal.returns
 returns c =
-    
-    
     let a = c.args in
     λ i. record {
       jumps = get_or a.row.now (8 * a.p) 0;

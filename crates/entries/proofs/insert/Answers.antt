@@ -34,9 +34,6 @@ keep_better-requires c = omega (arith, (held (goal.at.keep_better-requires c).Th
 
 pub returns-then-is_held : goal.returns-then-is_held
 returns-then-is_held c =
-    
-    
-    
     let a = c.args in
     grown_kept a.row.now (tuple_of a.e) c.place_of-p.result a.held c.place_of-p.ensures
     c.requires.1 c.requires.0
@@ -44,9 +41,6 @@ returns-then-is_held c =
 
 pub returns-then-held-lt64 : goal.returns-then-held-lt64
 returns-then-held-lt64 c =
-    
-    
-    
     let a = c.args in
     let e = tuple_of a.e in
     subst (λ (n : ℕ). Grown (inserted e (entries_from a.row.now 0 a.held)) a.row.now
@@ -57,9 +51,6 @@ returns-then-held-lt64 c =
 
 pub returns : goal.returns
 returns c =
-    
-    
-    
     let a = c.args in
     let full : a.held ≡ 64 = omega arith in
     grown_over a.row.now (tuple_of a.e) c.place_of-p.result a.held c.place_of-p.ensures full

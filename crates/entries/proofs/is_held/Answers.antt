@@ -6,7 +6,6 @@ use Rattle.entries.proofs.is_held.Goals as goal
 
 pub returns-then-e-jumps : goal.returns-then-e-jumps
 returns-then-e-jumps c =
-    
     let a = c.args in
     rw (
       lt-ltb a.p a.held c.if-p-held.true,
@@ -17,7 +16,6 @@ returns-then-e-jumps c =
 
 pub returns-else-e-jumps : goal.returns-else-e-jumps
 returns-else-e-jumps c =
-    
     let a = c.args in
     rw (
       lt-ltb a.p a.held c.if-p-held.true,

@@ -8,8 +8,6 @@ use Rattle.entries.proofs.keep_better.Goals as goal
 
 pub returns : goal.returns
 returns c =
-    
-    
     let a = c.args in
     c.keep_way-2.ensures
     ∙ ap (λ m. way_kept m (8 * a.p + 5) lightest (words_in a.e.lightest)) c.keep_way.ensures

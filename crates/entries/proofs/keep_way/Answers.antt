@@ -14,8 +14,6 @@ judged c =
 
 pub returns-then-better : goal.returns-then-better
 returns-then-better c =
-    
-    
     let a = c.args in
     let l = a.row.now in
     c.put_way.ensures

@@ -13,10 +13,6 @@ loop-i-init c = ((moving_none c.args.row.now c.args.to, omega arith), omega arit
 
 pub loop-i-preserved : goal.loop-i-preserved
 loop-i-preserved c =
-    
-    
-    
-    
     let a = c.args in
     let l = c.loop-i in (
       (

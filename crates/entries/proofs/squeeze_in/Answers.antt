@@ -9,9 +9,6 @@ use Rattle.entries.proofs.squeeze_in.Goals as goal
 
 pub returns : goal.returns
 returns c =
-    
-    
-    
     let a = c.args in
     let e = tuple_of a.e in
     subst (λ (m : List ℕ). Squeezed a.row.now m a.p a.held e) (sym c.put_entry.ensures)

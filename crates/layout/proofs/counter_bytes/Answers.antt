@@ -6,8 +6,6 @@ use Rattle.layout.proofs.counter_bytes.Goals as goal
 pub returns : goal.returns
 unfolding kind_of
 returns c =
-    
-    
     let field = c.struct_told-1.given in
     let counter = c.args.c in
     rw (

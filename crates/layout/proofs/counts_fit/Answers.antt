@@ -30,7 +30,6 @@ turn c =
 
 pub returns-then-left-own : goal.returns-then-left-own
 returns-then-left-own c =
-    
     let body = c.args.body in
     sym
     (within_counts _ c.if-count-gt64.false c.if-total-gt256.false
@@ -41,7 +40,6 @@ loop-k-preserved c = rw (add-one c.loop-k.k) (omega (arith, turn (goal.at.loop-k
 
 pub returns : goal.returns
 returns c =
-    
     let body = c.args.body in
     let all : c.loop-k.k ≡ body.count = omega arith in
     let none : sum_own (drop c.loop-k.k (take body.count body.blocks)) ≡ 0 =

@@ -36,7 +36,6 @@ body c = (entry c).args.body
 -- the counter took 17 bytes
 began : (c : At-loop-k) → c.put-at.result ≡ 17
 began c =
-    
     omega (arith, c.put-at.ensures.end, seventeen c.before.before.before.before.before.before)
 
 room : (c : At-loop-k) → 3665 ≤ length c.loop-k.buf
@@ -76,12 +75,10 @@ bounds-blocks-k c = omega (arith, known (goal.at.bounds-blocks-k c).At-loop-k)
 
 pub lay_block-at-requires : goal.lay_block-at-requires
 lay_block-at-requires c =
-    
     omega (arith, sum (goal.at.lay_block-at-requires c).In-loop-k, known (goal.at.lay_block-at-requires c).At-loop-k, began (goal.at.lay_block-at-requires c).At-loop-k, room (goal.at.lay_block-at-requires c).At-loop-k)
 
 pub overflow_add-e : goal.overflow_add-e
 overflow_add-e c =
-    
     omega (arith, sum (goal.at.overflow_add-e c).In-loop-k, known (goal.at.overflow_add-e c).At-loop-k)
 
 pub overflow_add-k : goal.overflow_add-k
@@ -94,8 +91,6 @@ loop-k-smaller c =
 
 pub loop-k-preserved : goal.loop-k-preserved
 loop-k-preserved c =
-    
-    
     let loop = c.loop-k in
     let after : c.lay_block-at.result ≤ length loop.buf =
     omega (
@@ -121,15 +116,12 @@ counted : (c : At-loop-k)
     → take c.put-at.result c.put-at.new.out
     ≡ counter_bytes (body c).counter
 counted c =
-    
-    
     up_to_end c.put-at.ensures (omega (arith, c.put-at.ensures.end, seventeen c.before.before.before.before.before.before, (entry c).requires.1))
     ∙ c.counter_bytes-first.ensures
 
 pub returns : goal.returns
 unfolding lay
 returns c =
-    
     let loop = c.loop-k in
     let all : loop.k ≡ (body (goal.at.returns c).At-loop-k).count = omega arith in
     let none = sum_end (body (goal.at.returns c).At-loop-k).count loop.k all (body (goal.at.returns c).At-loop-k).blocks in

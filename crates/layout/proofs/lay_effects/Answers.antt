@@ -27,10 +27,6 @@ put-to-requires c = omega (arith, ten (goal.at.put-to-requires c).After-effect_b
 
 pub loop-j-preserved : goal.loop-j-preserved
 loop-j-preserved c =
-    
-    
-    
-    
     let rest = drop c.args.from c.args.effects in
     let in-effects : c.loop-j.j < length rest =
     simp length-drop (omega (arith, c.well_formed.1.1.0.1.0.1)) in (

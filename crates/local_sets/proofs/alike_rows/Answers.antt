@@ -22,15 +22,11 @@ offset_bounds-groups-v c = fits_8 (c.shared_slice_known-in-loop-b-1.given c.loop
 
 pub bounds-groups-v : goal.bounds-groups-v
 bounds-groups-v c =
-    
     in_room c.requires.1
     (c.shared_slice_known-in-loop-b-1.given c.loop-b.b).fits
 
 pub loop-b-preserved : goal.loop-b-preserved
 loop-b-preserved c =
-    
-    
-    
     let a = c.args in (
       omega arith,
       λ g. told_more _ _ _ _ _ _ (omega arith) (c.loop-b.invariant.1 g)

@@ -40,13 +40,6 @@ offset_bounds-owned-i c = fits_8 (below_256 (bounds-owned-i c))
 
 pub loop-i-preserved : goal.loop-i-preserved
 loop-i-preserved c =
-    
-    
-    
-    
-    
-    
-    
     let below = c.loop-i-test.true in
     
     let size : length c.args.blocks ≡ 64 = c.well_formed.1.0.1.0.1 in

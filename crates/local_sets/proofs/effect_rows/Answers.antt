@@ -38,9 +38,6 @@ offset_bounds-touched-b c = fits_8 (below_256 c.loop-b-test.true)
 
 pub loop-b-preserved : goal.loop-b-preserved
 loop-b-preserved c =
-    
-    
-    
     let owned = c.args.owned.now in
     let below = c.loop-b-test.true in
     let i = c.loop-b.invariant in (

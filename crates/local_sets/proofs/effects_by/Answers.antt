@@ -4,6 +4,5 @@ use Rattle.local_sets.proofs.effects_by.Goals as goal
 
 pub returns : goal.returns
 returns c =
-    
     let t = c.args.t in
     λ g. c.effect_rows.ensures t _ (c.marks_of-marks.ensures t.tests t.variable g)

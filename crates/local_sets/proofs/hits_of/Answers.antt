@@ -21,11 +21,6 @@ inside from k own room h = omega arith
 
 pub loop-k-preserved : goal.loop-k-preserved
 loop-k-preserved c =
-    
-    
-    
-    
-    
     let i = c.args.from + c.loop-k.k in (
       omega arith,
       λ t effects m.

@@ -50,12 +50,6 @@ opposed-requires-in-loop-k c =
 
 pub loop-k-preserved : goal.loop-k-preserved
 loop-k-preserved c =
-    
-    
-    
-    
-    
-    
     let below = c.loop-k-test.true in
     let a : Effect = get_or c.args.effects c.loop-k.k zero_effect in
     let value : SFits w32 a.constant = record { sfits = c.struct_told-1.given.1.1.0.1 } in (
@@ -85,6 +79,5 @@ loop-k-preserved c =
 
 pub returns : goal.returns
 returns c tests variable g =
-    
     let all : c.loop-k.k ≡ 256 = omega arith in
     rw (← all) (c.loop-k.invariant.1 tests variable g)

@@ -35,8 +35,6 @@ loop-left-smaller c = c.rest-left.ensures.1 (omega (arith, c.loop-left-test.true
 
 pub loop-left-preserved : goal.loop-left-preserved
 loop-left-preserved c =
-    
-    
     let a = c.args in
     let some : 0 < c.loop-left.left = omega (arith, c.loop-left-test.true) in
     let fits : SFits w32 (get_or a.constants.now c.lowest-j.result
@@ -56,7 +54,6 @@ loop-left-preserved c =
 
 pub returns : goal.returns
 returns c =
-    
     let a = c.args in
     rw (to_z-of_z c.ranges.constant) at
     (sifted_end (λ k. not

@@ -20,7 +20,6 @@ opposed-requires c = c.requires.1.1
 
 pub loop-b-preserved : goal.loop-b-preserved
 loop-b-preserved c =
-    
     let a = c.args in
     let value : SFits w32 (get_or a.constant.now c.loop-b.b
     (pos 0)) = record { sfits = c.value-1.given } in (

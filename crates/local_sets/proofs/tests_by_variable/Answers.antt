@@ -36,7 +36,6 @@ bounds-r-v-in-loop-i c = omega (
 
 pub loop-i-preserved : goal.loop-i-preserved
 loop-i-preserved c =
-    
     let a = c.args in (
       omega arith,
       sorted_more 256 (λ j. get_or a.variable.now j 0) (bit a.tests) c.loop-i.i _ _ _ _ c.loop-i.invariant.1
@@ -47,6 +46,5 @@ loop-i-preserved c =
 
 pub returns : goal.returns
 returns c =
-    
     on_variable_end c.args.tests c.args.variable.now _ _ c.ranges.tests.fits
     (λ j. (c.shared_slice_known-1.given j).fits) c.loop-i-test.false c.loop-i.invariant.1

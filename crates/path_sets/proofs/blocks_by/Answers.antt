@@ -13,9 +13,6 @@ put_at-requires c = (c.loop-b.invariant.1.size, c.loop-b-test.true)
 
 pub loop-b-preserved : goal.loop-b-preserved
 loop-b-preserved c =
-    
-    
-    
     (
       next_within c.loop-b-test.true,
       turned_more _ _ _ _ _ _ c.loop-b.invariant.1 c.both.ensures c.put_at.ensures,

@@ -25,7 +25,6 @@ loop-b-init c = (omega arith, leading_none _ _ _ _ refl)
 
 pub bounds-jump-b : goal.bounds-jump-b
 bounds-jump-b c =
-    
     inside c.loop-b-test.true c.loop-b.invariant.0
 
 pub offset_bounds-jump-b : goal.offset_bounds-jump-b
@@ -33,17 +32,10 @@ offset_bounds-jump-b c = fits_8 (below_256 (bounds-jump-b c))
 
 pub put-here-requires : goal.put-here-requires
 put-here-requires c =
-    
     inside c.loop-b-test.true c.loop-b.invariant.0
 
 pub loop-b-preserved : goal.loop-b-preserved
 loop-b-preserved c =
-    
-    
-    
-    
-    
-    
     (
       within (bounds-jump-b (goal.at.loop-b-preserved c).After-put-here),
       leading_more _ _ _ c.requires c.loop-b.b _ _ _ _ _ (bounds-jump-b (goal.at.loop-b-preserved c).After-put-here) (next c.loop-b-test.true)
@@ -53,7 +45,6 @@ loop-b-preserved c =
 
 pub returns : goal.returns
 returns c =
-    
     leading_end _ _ _ c.loop-b.b _ _ (omega (arith, c.loop-b-test.false)) c.loop-b.invariant.1
 
 pub loop-b-smaller : goal.loop-b-smaller

@@ -33,12 +33,9 @@ offset_bounds-r-b c = fits_8 (below_256 (bounds-r-b c))
 
 pub loop-b-preserved : goal.loop-b-preserved
 loop-b-preserved c =
-    
-    
-    
     let a = c.args in (
-      next_within (bounds-r-b (goal.at.loop-b-preserved c).In-loop-b),
-      told_more _ _ _ _ _ _ (bounds-r-b (goal.at.loop-b-preserved c).In-loop-b) c.loop-b.invariant.1 c.loop-b.invariant.2,
+      next_within c.loop-b-test.true,
+      told_more _ _ _ _ _ _ c.loop-b-test.true c.loop-b.invariant.1 c.loop-b.invariant.2,
       listed_more a.l a.denied a.jumping a.falling _ _ _ _ c.loop-b.invariant.2 c.seconds_of-here.ensures
           c.either-all.ensures,
     )

@@ -19,8 +19,6 @@ loop-left-smaller c = c.rest-left.ensures.1 (omega (arith, c.loop-left-test.true
 
 pub loop-left-preserved : goal.loop-left-preserved
 loop-left-preserved c =
-    
-    
     let some : 0 < c.loop-left.left = omega (arith, c.loop-left-test.true) in (
       omega (arith, c.rest-left.ensures.1 some, c.loop-left.invariant.0),
       putting_more _ _ _ c.loop-left.left _ c.lowest-s.result _ _ c.loop-left.invariant.1 c.loop-left.invariant.0 some

@@ -5,9 +5,6 @@ use Rattle.path_sets.proofs.seconds_of.Goals as goal
 
 pub returns : goal.returns
 returns c s =
-    
-    
-    
     c.either-2.ensures s
     ∙ (λ i. c.both-assigned.ensures s i || (c.either.ensures s ∙
     (λ i. c.both.ensures s i || c.both-2.ensures s i)) i)

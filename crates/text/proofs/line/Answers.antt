@@ -5,8 +5,6 @@ use Rattle.text.proofs.line.Goals as goal
 
 pub returns : goal.returns
 returns c =
-    
-    
     (
       then c.put-a.ensures (then c.number-b.ensures.0 c.put.ensures),
       omega (arith, c.put-a.ensures.end, c.number-b.ensures.1, c.put.ensures.end),

@@ -31,7 +31,6 @@ step-to-requires c = omega (arith, room (goal.at.step-to-requires c).At-loop-blo
 
 pub loop-block-preserved : goal.loop-block-preserved
 loop-block-preserved c =
-    
     (
       turned c.loop-block.invariant.0 (omega arith) c.step-to.ensures.0,
       (omega (arith, c.step-to.ensures.1), (omega arith, c.step-to.auto.out ∙ c.loop-block.invariant.1.1.1)),
@@ -42,14 +41,10 @@ put-requires c = omega (arith, room (goal.at.put-requires c).After-loop-block)
 
 pub shape_of-out : goal.shape_of-out
 shape_of-out c =
-    
-    
     c.put.auto.out ∙ (c.loop-block.invariant.1.1.1 ∙ c.put-to.auto.out)
 
 pub returns : goal.returns
 returns c =
-    
-    
     (
       then c.put-to.ensures
           (then (ended c.loop-block.invariant.0 (omega arith)) c.put.ensures),

@@ -10,9 +10,6 @@ returns-then-way-eq0 c = (rw (eq-eqb _ 0 c.if-way-eq0.true) (nothing _ _), omega
 
 pub returns : goal.returns
 returns c =
-    
-    
-    
     let last = rw c.letter.ensures at c.put.ensures in (
       rw (ne_eqb _ 0 c.if-way-eq0.false)
           (then c.put-a.ensures (then c.number-b.ensures.0 last)),
