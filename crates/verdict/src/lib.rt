@@ -2,6 +2,7 @@
 // crate records, and judged by themselves in crate faults; here is their order, and what is judged of the whole form.
 // What each function means is in form's Form and Answer.
 #![tactic(auto)]
+
 ghost use Rattle.std.specs.Prelude.{◌≡◌, ◌+◌, ◌<◌, ◌≤◌, ◌^◌, length};
 ghost use Rattle.form.specs.Form.{when, one_if, records_from, bad_field};
 ghost use Rattle.form.specs.Form.{bad_target, out_of_place, over_limit, payload_fault, record_fault, end_fault, judge_ends};

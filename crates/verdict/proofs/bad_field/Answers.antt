@@ -46,34 +46,27 @@ module _ (s : List ℕ) (at : ℕ) (k : Kind) (is : k ≡ kind_at s at) where
 
 pub returns-then-role-eq-BLOCK : goal.returns-then-role-eq-BLOCK
 returns-then-role-eq-BLOCK c =
-    let tested = c.before.before in
-    let asked = tested.before in
-    let start = asked.args in
+    let start = c.args in
     c.bad_block.ensures
     ∙ ap bad_block c.block_at.ensures
-    ∙ a_block start.s.now start.at asked.kind_at-kind.result asked.kind_at-kind.ensures.0 tested.if-role-eq-BLOCK.true
+    ∙ a_block start.s.now start.at c.kind_at-kind.result c.kind_at-kind.ensures.0 c.if-role-eq-BLOCK.true
 
 pub returns-then-role-eq-EFFECT : goal.returns-then-role-eq-EFFECT
 returns-then-role-eq-EFFECT c =
-    let tested = c.before.before in
-    let asked = tested.before.before in
-    let start = asked.args in
+    let start = c.args in
     c.bad_effect.ensures
     ∙ ap bad_effect c.effect_at.ensures
-    ∙ an-effect start.s.now start.at asked.kind_at-kind.result asked.kind_at-kind.ensures.0 tested.if-role-eq-EFFECT.true
+    ∙ an-effect start.s.now start.at c.kind_at-kind.result c.kind_at-kind.ensures.0 c.if-role-eq-EFFECT.true
 
 pub returns-then-role-eq-COUNTER : goal.returns-then-role-eq-COUNTER
 returns-then-role-eq-COUNTER c =
-    let tested = c.before.before in
-    let asked = tested.before.before.before in
-    let start = asked.args in
+    let start = c.args in
     c.bad_counter.ensures
     ∙ ap bad_counter c.counter_at.ensures
-    ∙ a-counter start.s.now start.at asked.kind_at-kind.result asked.kind_at-kind.ensures.0 tested.if-role-eq-COUNTER.true
+    ∙ a-counter start.s.now start.at c.kind_at-kind.result c.kind_at-kind.ensures.0 c.if-role-eq-COUNTER.true
 
 pub returns : goal.returns
 returns c =
-    let asked = c.before.before.before in
-    let start = asked.args in
-    neither start.s.now start.at asked.kind_at-kind.result asked.kind_at-kind.ensures.0 c.if-role-eq-COUNTER.false
+    let start = c.args in
+    neither start.s.now start.at c.kind_at-kind.result c.kind_at-kind.ensures.0 c.if-role-eq-COUNTER.false
     c.if-role-eq-BLOCK.false c.if-role-eq-EFFECT.false

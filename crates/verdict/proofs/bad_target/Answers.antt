@@ -19,16 +19,13 @@ module _ (s : List ℕ) (at b : ℕ) (k : Kind) (is : k ≡ kind_at s at) where
 
 pub returns-then-kind-eq-BLOCK : goal.returns-then-kind-eq-BLOCK
 returns-then-kind-eq-BLOCK c =
-    let tested = c.before.before in
-    let asked = tested.before.before in
-    let start = asked.args in
+    let start = c.args in
     c.low_target.ensures
     ∙ ap (λ k. low_target k start.b) c.block_at.ensures
-    ∙ a_block start.s.now start.at start.b asked.kind_at-kind.result asked.kind_at-kind.ensures.0
-    tested.if-kind-eq-BLOCK.true
+    ∙ a_block start.s.now start.at start.b c.kind_at-kind.result c.kind_at-kind.ensures.0
+    c.if-kind-eq-BLOCK.true
 
 pub returns : goal.returns
 returns c =
-    let asked = c.before.before in
-    let start = asked.args in
-    no_block start.s.now start.at start.b asked.kind_at-kind.result asked.kind_at-kind.ensures.0 c.if-kind-eq-BLOCK.false
+    let start = c.args in
+    no_block start.s.now start.at start.b c.kind_at-kind.result c.kind_at-kind.ensures.0 c.if-kind-eq-BLOCK.false

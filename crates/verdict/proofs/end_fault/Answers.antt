@@ -20,23 +20,20 @@ module _ (s : List ℕ) (at n k : ℕ) (kind : Kind) (is : kind ≡ kind_at s at
 
 pub returns-then-kind-eq-BLOCK : goal.returns-then-kind-eq-BLOCK
 returns-then-kind-eq-BLOCK c =
-    let far = c.before.before in
-    let end = far.before in
-    let block = end.block_at-block.ensures in
-    let tested = end.before.before in
-    let asked = tested.before.before in
-    let start = asked.args in
+    let block = c.block_at-block.ensures in
+    
+    
+    let start = c.args in
     c.refuse_if-then-kind-eq-BLOCK.ensures
     ∙ (λ i.
-    when ((end.bad_end.ensures ∙ ap (λ (x : Block). bad_end x start.n start.k) block) i) 18
+    when ((c.bad_end.ensures ∙ ap (λ (x : Block). bad_end x start.n start.k) block) i) 18
     ((c.refuse_if.ensures
-    ∙ ap (λ t. when t 19 0) (far.far_target.ensures ∙ ap (λ (x : Block). far_target x start.n) block)) i))
-    ∙ a_block start.s.now start.at start.n start.k asked.kind_at-kind.result asked.kind_at-kind.ensures.0
-    tested.if-kind-eq-BLOCK.true
+    ∙ ap (λ t. when t 19 0) (c.far_target.ensures ∙ ap (λ (x : Block). far_target x start.n) block)) i))
+    ∙ a_block start.s.now start.at start.n start.k c.kind_at-kind.result c.kind_at-kind.ensures.0
+    c.if-kind-eq-BLOCK.true
 
 pub returns : goal.returns
 returns c =
-    let asked = c.before.before in
-    let start = asked.args in
-    no_block start.s.now start.at start.n start.k asked.kind_at-kind.result asked.kind_at-kind.ensures.0
+    let start = c.args in
+    no_block start.s.now start.at start.n start.k c.kind_at-kind.result c.kind_at-kind.ensures.0
     c.if-kind-eq-BLOCK.false

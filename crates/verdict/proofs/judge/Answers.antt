@@ -23,18 +23,14 @@ returns-then-fault-ne0 c =
 
 pub loop-at-preserved : goal.loop-at-preserved
 loop-at-preserved c =
-    let effect = c.before in
-    let block = effect.before.before in
-    let read = block.before.before in
-    let turn = read.before.before in
     let passed =
-    rest_pass _ _ turn.loop-at-test.true _ _ _ (sym turn.record_fault-fault.ensures ∙ read.if-fault-ne0.false)
-    turn.loop-at.invariant.0 in
-    let loop = turn.loop-at in
-    let few : loop.e + effect.one_if-e.result ≤ loop.at + read.kind_at-kind.result.length =
-    omega (arith, loop.invariant.1, read.kind_at-kind.ensures.1, effect.one_if-e.ensures.1) in (
-      rw (effect.one_if-e.ensures.0, block.one_if-b.ensures.0, read.kind_at-kind.ensures.0) passed,
-      (omega (arith, read.kind_at-kind.ensures.1, block.one_if-b.ensures.1), (omega arith, few)),
+    rest_pass _ _ c.loop-at-test.true _ _ _ (sym c.record_fault-fault.ensures ∙ c.if-fault-ne0.false)
+    c.loop-at.invariant.0 in
+    let loop = c.loop-at in
+    let few : loop.e + c.one_if-e.result ≤ loop.at + c.kind_at-kind.result.length =
+    omega (arith, loop.invariant.1, c.kind_at-kind.ensures.1, c.one_if-e.ensures.1) in (
+      rw (c.one_if-e.ensures.0, c.one_if-b.ensures.0, c.kind_at-kind.ensures.0) passed,
+      (omega (arith, c.kind_at-kind.ensures.1, c.one_if-b.ensures.1), (omega arith, few)),
     )
 
 pub returns-then-b-eq0 : goal.returns-then-b-eq0

@@ -16,13 +16,10 @@ returns-then-fault-ne0 c =
 
 pub loop-at-preserved : goal.loop-at-preserved
 loop-at-preserved c =
-    let counted = c.before in
-    let read = counted.before.before in
-    let turn = read.before.before in
     let passed =
-    ends_pass _ _ turn.loop-at-test.true _ _ _ (sym turn.end_fault-fault.ensures ∙ read.if-fault-ne0.false)
-    turn.loop-at.invariant.0 in
-    (rw (counted.one_if-k.ensures.0, read.kind_at-kind.ensures.0) passed, omega arith)
+    ends_pass _ _ c.loop-at-test.true _ _ _ (sym c.end_fault-fault.ensures ∙ c.if-fault-ne0.false)
+    c.loop-at.invariant.0 in
+    (rw (c.one_if-k.ensures.0, c.kind_at-kind.ensures.0) passed, omega arith)
 
 pub returns : goal.returns
 unfolding judge_ends
