@@ -1,6 +1,7 @@
 // The conflict list's bytes, and its number of entries, from the firsts of each edge (sets' Found). What bytes these
 // are is in specs/Laying.antt and specs/Listing.antt.
 #![tactic(auto)]
+
 ghost use Rattle.std.specs.Prelude.{◌≡◌, ◌+◌, ◌≤◌, ◌<◌, length};
 ghost use Rattle.std.specs.Int.Count.{ones};
 ghost use Rattle.lent.specs.Adding.{Adds};

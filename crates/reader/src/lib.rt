@@ -1,6 +1,7 @@
 // The reader of the order form: the verdict on any bytes (crate verdict), and the body of an accepted form. What each
 // function means is in form's Form and Answer.
 #![tactic(auto)]
+
 ghost use Rattle.std.specs.Prelude.{◌≡◌, ◌+◌, ◌<◌, ◌^◌};
 ghost use Rattle.form.specs.Form.{records_from, own_effects, zero_block, zero_effect, body_of, zero_body};
 ghost use Rattle.form.specs.Answer.{ReadAs};

@@ -1,6 +1,7 @@
 // Rows in local memory, as numbers: a step in front of a tail, the row of the last block, and the row of a block made
 // of its targets' rows. How an entry lies in a row's words is known in crate entries alone.
 #![tactic(auto)]
+
 ghost use Rattle.std.specs.Prelude.{◌≡◌, cond, ◌+◌, ◌^◌, ◌<◌, ◌≤◌, length};
 ghost use Rattle.entries.specs.Entries.{entries_from, Grown};
 ghost use Rattle.entries.specs.Structs.{words_in, tuple_of, struct_at};

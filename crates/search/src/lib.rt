@@ -3,6 +3,7 @@
 // plain words, and the routes kept stand in lent words: so a step is a few registers, and no struct is copied down or
 // back.
 #![tactic(auto)]
+
 ghost use Rattle.std.specs.Prelude.{◌≡◌, cond, ◌+◌, ◌^◌, ◌<◌, eqb};
 ghost use Rattle.std.proofs.Math.Option.{none, some};
 ghost use Rattle.laws.specs.Terms.{Choice, bit, preferred};

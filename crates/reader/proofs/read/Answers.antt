@@ -7,8 +7,7 @@ use Rattle.form.specs.declared.Body.{Body}
 use Rattle.form.specs.declared.Verdict.{Verdict}
 use Rattle.form.specs.Answer.{accepted, said, ReadAs}
 use Rattle.form.specs.Form.{when, judge, body_of, zero_body}
-use Rattle.reader.proofs.read.Statement.{statement}
-use Rattle.reader.proofs.read.Tie as tie
+use Rattle.reader.proofs.read.Goals as goal
 
 -- a verdict and the body that goes with it are the reading
 reading-is :
@@ -20,19 +19,12 @@ reading-is s v t body p q r = (
   ap said p,
 )
 
-returns : tie.Need-returns
+pub returns-then-accepts : goal.returns-then-accepts
+returns-then-accepts c =
+    reading-is _ _ true _ c.judge-verdict.ensures.0 (sym c.if-accepts.true ∙ c.accepts.ensures)
+    c.body_of-body.ensures
+
+pub returns : goal.returns
 returns c =
-    let tested = c.before.before in
-    reading-is _ _ true _ tested.before.judge.ensures.0 (sym c.before.if1.true ∙ tested.accepts.ensures)
-    c.body_of.ensures
-
-returns-2 : tie.Need-returns-2
-returns-2 c =
-    let tested = c.before.before in
-    reading-is _ _ false _ tested.before.judge.ensures.0 (sym c.before.if1.false ∙ tested.accepts.ensures)
-    c.zero-body.ensures
-
-pub read_spec : {M : Type 1} → statement M
-read_spec =
-    tie.close
-    (tie.spec (λ _ _. tt) (λ _ _. tt) (λ _ _. tt) returns (λ _ _. tt) returns-2)
+    reading-is _ _ false _ c.judge-verdict.ensures.0 (sym c.if-accepts.false ∙ c.accepts.ensures)
+    c.zero_body-body.ensures

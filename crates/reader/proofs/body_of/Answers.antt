@@ -1,0 +1,122 @@
+-- `reader::body_of` meets its contract.
+use mathlib.Core.List.{List}
+use mathlib.Core.Path.{◌≡◌, ap, sym, subst, ◌∙◌}
+use mathlib.Core.Logic.{⊎_elim}
+use Prim.Native.Nat.{ℕ, ◌+◌, ◌≤◌, ◌-◌}
+use native.Mathlib.Omega.{arith}
+use borrow.Author.Tests.{eq-eqb, ne_eqb}
+use lib.ListN.{length}
+use Rattle.form.specs.declared.Block.{Block}
+use Rattle.form.specs.declared.Kind.{Kind}
+use Rattle.form.specs.Records.{next, next_above}
+use Rattle.form.specs.Form.{kind_at, block_at, own_effects, blocks_in, effects_in, records_from, zero_block, zero_effect, fill}
+use Rattle.form.specs.Filling.{Gathering, gathering_start, gathering_end, gathering_take, gathering_skip, placed_in}
+use Rattle.form.specs.Filling.{placed_past}
+use Rattle.reader.proofs.body_of.Goals as goal
+use Rattle.reader.proofs.body_of.Goals.{After-kind_at-kind, Joined-kind-eq-BLOCK}
+
+pub loop-at-init : goal.loop-at-init
+unfolding fill
+loop-at-init c = (
+  gathering_start _ _ _ _ (rw c.zero_block-blocks.ensures),
+  (gathering_start _ _ _ _ (rw c.zero_effect-effects.ensures), omega arith),
+)
+
+pub overflow_cast-next : goal.overflow_cast-next
+overflow_cast-next c = omega (arith, c.kind_at-kind.ensures.1)
+
+pub overflow_add-next : goal.overflow_add-next
+overflow_add-next c = omega (arith, c.kind_at-kind.ensures.1)
+
+pub own_effects-requires : goal.own_effects-requires
+own_effects-requires c = omega (arith, c.kind_at-kind.ensures.1)
+
+-- the blocks after a record: one more, or none
+module _ (c : Joined-kind-eq-BLOCK) where
+  abbrev read : After-kind_at-kind
+  read = c.before.before.before
+
+  abbrev form : List ℕ
+  form = read.before.before.before.before.before.before.before.args.s.now
+
+  abbrev at : ℕ
+  at = read.before.before.loop.at
+
+  kind : read.kind_at.result ≡ kind_at form at
+  kind = read.kind_at.ensures.0
+
+  role : read.kind_at.result.role ≡ (kind_at form at).role
+  role = ap (λ (k : Kind). k.role) kind
+
+  abbrev Gathered : List Block × ℕ → Type 0
+  Gathered blocks =
+      Gathering zero_block 64 (blocks_in form (records_from form 0)) (blocks_in form (records_from form (next form at)))
+      blocks.0 blocks.1
+      × (blocks.1 ≤ next form at)
+
+  blocks-on : Gathered (c.if-kind-eq-BLOCK.blocks, c.if-kind-eq-BLOCK.count)
+  blocks-on =
+      let list = read.before.before.loop.blocks in
+      let gathered = read.before.before.loop.inv.0 in
+      let few = read.before.before.loop.inv.1.1.0 in
+      ⊎_elim
+      (λ w.
+      let x = w.2.result in
+      let put = ⊎_elim (λ v. placed_in list x v.0.taken v.1) (λ v. placed_past list x v.0.left v.1)
+      w.3.came in
+      let own = w.1.ensures ∙ ap (λ (k : Kind). own_effects form (records_from form (at + k.length))) kind in
+      let more =
+      gathering_take _ _ _ _ _ _ _ read.before.loop-test.taken _ _ gathered x _
+      (eq-eqb _ _ (sym role ∙ w.0.taken))
+      (w.2.ensures ∙ ap (block_at form at) own) put in
+      subst Gathered (λ i. (sym w.4 i, sym w.5 i)) (more, omega (arith, few, next_above form at)))
+      (λ w.
+      let same = gathering_skip _ _ _ _ _ _ _ read.before.loop-test.taken _ _ gathered
+      (ne_eqb _ _ (λ e. w.0.left (role ∙ e))) in
+      subst Gathered (λ i. (sym w.1 i, sym w.2 i)) (same, omega (arith, few, next_above form at)))
+      c.if-kind-eq-BLOCK.branch
+
+pub loop-at-smaller-after-total-lt256 : goal.loop-at-smaller-after-total-lt256
+loop-at-smaller-after-total-lt256 c = omega (arith, (read (goal.at.loop-at-smaller-after-total-lt256 c).Joined-kind-eq-BLOCK).kind_at.ensures.1)
+
+pub loop-at-smaller : goal.loop-at-smaller
+loop-at-smaller c = omega (arith, (read (goal.at.loop-at-smaller c).Joined-kind-eq-BLOCK).kind_at.ensures.1)
+
+pub loop-at-preserved-after-total-lt256 : goal.loop-at-preserved-after-total-lt256
+loop-at-preserved-after-total-lt256 c =
+    let turn = (read (goal.at.loop-at-preserved-after-total-lt256 c).Joined-kind-eq-BLOCK).before in
+    let list = turn.before.loop.effects in
+    let x = c.effect_at-effect.result in
+    let (blocks, count) = blocks-on (goal.at.loop-at-preserved-after-total-lt256 c).Joined-kind-eq-BLOCK in
+    let put = ⊎_elim (λ v. placed_in list x v.0.taken v.1) (λ v. placed_past list x v.0.left v.1)
+    c.if-total-lt256.branch in
+    let effects =
+    gathering_take _ _ _ _ _ _ _ turn.loop-test.taken _ _ turn.before.loop.inv.1.0 x _
+    (eq-eqb _ _ (sym (role (goal.at.loop-at-preserved-after-total-lt256 c).Joined-kind-eq-BLOCK) ∙ c.if-kind-eq-EFFECT.true)) c.effect_at-effect.ensures put in
+    let few : turn.before.loop.total + 1 ≤ next (form (goal.at.loop-at-preserved-after-total-lt256 c).Joined-kind-eq-BLOCK) (at (goal.at.loop-at-preserved-after-total-lt256 c).Joined-kind-eq-BLOCK) =
+    omega (arith, turn.before.loop.inv.1.1, next_above (form (goal.at.loop-at-preserved-after-total-lt256 c).Joined-kind-eq-BLOCK) (at (goal.at.loop-at-preserved-after-total-lt256 c).Joined-kind-eq-BLOCK)) in
+    rw (kind (goal.at.loop-at-preserved-after-total-lt256 c).Joined-kind-eq-BLOCK) (blocks, (effects, (count, few)))
+
+pub loop-at-preserved : goal.loop-at-preserved
+loop-at-preserved c =
+    let turn = (read (goal.at.loop-at-preserved c).Joined-kind-eq-BLOCK).before in
+    let (blocks, count) = blocks-on (goal.at.loop-at-preserved c).Joined-kind-eq-BLOCK in
+    let effects =
+    gathering_skip _ _ _ _ _ _ _ turn.loop-test.taken _ _ turn.before.loop.inv.1.0
+    (ne_eqb _ _ (λ e. c.if-kind-eq-EFFECT.false (role (goal.at.loop-at-preserved c).Joined-kind-eq-BLOCK ∙ e))) in
+    let few : turn.before.loop.total ≤ next (form (goal.at.loop-at-preserved c).Joined-kind-eq-BLOCK) (at (goal.at.loop-at-preserved c).Joined-kind-eq-BLOCK) =
+    omega (arith, turn.before.loop.inv.1.1, next_above (form (goal.at.loop-at-preserved c).Joined-kind-eq-BLOCK) (at (goal.at.loop-at-preserved c).Joined-kind-eq-BLOCK)) in
+    rw (kind (goal.at.loop-at-preserved c).Joined-kind-eq-BLOCK) (blocks, (effects, (count, few)))
+
+pub returns : goal.returns
+returns c =
+    let loop = c.loop-at in
+    let blocks = gathering_end _ _ _ _ _ _ _ c.loop-at-test.false _ _ loop.invariant.0 in
+    let effects = gathering_end _ _ _ _ _ _ _ c.loop-at-test.false _ _ loop.invariant.1.0 in
+    λ i. record {
+      counter = c.counter_at-counter.ensures i;
+      count = blocks.0 i;
+      blocks = blocks.1 i;
+      total = effects.0 i;
+      effects = effects.1 i;
+    }
