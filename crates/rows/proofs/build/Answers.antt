@@ -11,40 +11,36 @@ use Rattle.rows.specs.Rows.{source_of, many_of, tails_by, many_few, pushed, pour
 use Rattle.rows.proofs.build.Goals as goal
 use Rattle.rows.proofs.build.Goals.{After-add_tail-held, After-tail_of-tail, In-loop-i, Start}
 
--- in the inner loop: what was given at the start
-abbrev start : (c : In-loop-i) → Start
-start c = c.before.before.before.before.before.before.before.before.before.before.before.before
-
 -- a tail of the target's row, and there are at most 64
 inside : (c : In-loop-i)
-    → (c.loop-i.i < many_of (start c).args.tails
+    → (c.loop-i.i < many_of c.args.tails
     c.ways.way) × (c.loop-i.i < 64)
 inside c =
     let way = c.ways.way in
-    let a = (start c).args in
-    let few = many_few a.plan.now a.b a.tails a.first.now a.second.now (start c).requires.0 way in
+    let a = c.args in
+    let few = many_few a.plan.now a.b a.tails a.first.now a.second.now c.requires.ready way in
     omega (arith, c.loop-i-test.true, c.many_of-many.ensures, few)
 
 -- its weight with the cost fits, of each choice
-light : (choice : Choice) (c : After-tail_of-tail)
+light : (choice : Choice) (c : After-tail_of-tail) → c.loop-i.i < many_of c.args.tails c.ways.way
     → c.cost-cost.result + (chosen choice (tuple_of c.tail_of-tail.result).1).0 < 2 ^ 64
-light choice c =
+light choice c here =
     let way = c.ways.way in
-    let a = (start c.before).args in
+    let a = c.args in
     subst (λ (e : Entry). c.cost-cost.result + (chosen choice (tuple_of e).1).0 < 2 ^ 64)
     (sym c.tail_of-tail.ensures)
     (subst (λ (n : ℕ). n + (chosen choice (entry_at (source_of a.first.now a.second.now way)
     c.loop-i.i).1).0 < 2 ^ 64) (sym c.cost-cost.ensures)
-    ((start c.before).requires.0.light choice way c.loop-i.i (inside c.before).0))
+    (c.requires.ready.light choice way c.loop-i.i here))
 
 -- after the call in it: the row is as long as before, and has the tail
 new-size : (c : After-add_tail-held) → length c.add_tail-held.new.row ≡ 512
-new-size c = c.add_tail-held.auto.1.1.1.1.0 ∙ c.loop-i.invariant.0.size
+new-size c = c.add_tail-held.auto.row ∙ c.loop-i.invariant.0.size
 
 grown : (c : After-add_tail-held)
     → (
     
-    let a = (start c.before.before.before).args in
+    let a = c.args in
     let way = c.ways.way in
     Grown (pushed c.half_of-jumps.result c.half_of-falls.result c.cost-cost.result
     (entry_at (source_of a.first.now a.second.now way) c.loop-i.i)
@@ -58,18 +54,18 @@ grown c =
 
 pub ways-init : goal.ways-init
 ways-init c = 
-    (filling_start _ _ _ c.requires.1.1 c.requires.1.0, omega arith)
+    (filling_start _ _ _ c.requires.row_len.1 c.requires.row_len.0, omega arith)
 
 pub half_of-jumps-requires : goal.half_of-jumps-requires
-half_of-jumps-requires c = let ready = c.requires.0 in omega
+half_of-jumps-requires c = let ready = c.requires.ready in omega
     (arith, ready.size, ready.below)
 
 pub half_of-falls-requires : goal.half_of-falls-requires
-half_of-falls-requires c = let ready = c.requires.0 in omega
+half_of-falls-requires c = let ready = c.requires.ready in omega
     (arith, ready.size, ready.below)
 
 pub cost-cost-requires : goal.cost-cost-requires
-cost-cost-requires c = let ready = c.requires.0 in omega
+cost-cost-requires c = let ready = c.requires.ready in omega
     (arith, ready.size, ready.below)
 
 pub loop-i-init : goal.loop-i-init
@@ -82,11 +78,14 @@ loop-i-init c =
     )
 
 pub tail_of-tail-requires : goal.tail_of-tail-requires
-tail_of-tail-requires c = let ready = (start c).requires.0 in (ready.first_size, (ready.second_size, (inside c).1))
+tail_of-tail-requires c = let ready = c.requires.ready in (ready.first_size, (ready.second_size, (inside c).1))
 
 pub add_tail-held-requires : goal.add_tail-held-requires
 add_tail-held-requires c =
-    let f = c.loop-i.invariant.0 in ((f.size, f.few), (light heaviest (goal.at.add_tail-held-requires c).After-tail_of-tail, light lightest (goal.at.add_tail-held-requires c).After-tail_of-tail))
+    let f = c.loop-i.invariant.0 in
+    let tail = (goal.at.add_tail-held-requires c).After-tail_of-tail in
+    let here = (inside (goal.at.add_tail-held-requires c).In-loop-i).0 in
+    record { row_len = (f.size, f.few); weight_bound = (light heaviest tail here, light lightest tail here) }
 
 pub loop-i-preserved : goal.loop-i-preserved
 loop-i-preserved c =
@@ -117,7 +116,7 @@ ways-preserved c =
     )
 
 pub shape_of-row-after-ways : goal.shape_of-row-after-ways
-shape_of-row-after-ways c = c.ways.invariant.0.size ∙ sym c.requires.1.0
+shape_of-row-after-ways c = c.ways.invariant.0.size ∙ sym c.requires.row_len.0
 
 pub returns-after-ways : goal.returns-after-ways
 returns-after-ways c =
@@ -129,12 +128,12 @@ returns-after-ways c =
 
 pub shape_of-row-then-held-gt64 : goal.shape_of-row-then-held-gt64
 shape_of-row-then-held-gt64 c = new-size (goal.at.shape_of-row-then-held-gt64 c).After-add_tail-held ∙ sym
-    (start (goal.at.shape_of-row-then-held-gt64 c).In-loop-i).pre.1.0
+    c.requires.row_len.0
 
 pub returns-then-held-gt64 : goal.returns-then-held-gt64
 returns-then-held-gt64 c =
     let a = c.args in
-    grown_past _ _ _ c.add_tail-held.result (start (goal.at.returns-then-held-gt64 c).In-loop-i).requires.1.0 (new-size (goal.at.returns-then-held-gt64 c).After-add_tail-held)
+    grown_past _ _ _ c.add_tail-held.result c.requires.row_len.0 (new-size (goal.at.returns-then-held-gt64 c).After-add_tail-held)
     c.add_tail-held.ensures.most c.if-held-gt64.true
     (way_over a.plan.now a.b (tails_by a.tails a.first.now a.second.now) c.ways.way
     c.cost-cost.result c.half_of-jumps.result c.half_of-falls.result
