@@ -23,7 +23,7 @@ edge_entries-at-requires c =
     
     let room = all_room a.variable.now a.a1.now a.j1.now a.f1.now a.a2.now
     a.j2.now a.f2.now c.loop-s.s c.loop-s.invariant.1 (omega arith)
-    c.pre.1 in
+    c.requires.1 in
     (omega arith, omega (arith, room, c.edge_entries-next.ensures.end, c.edge_entries-next.auto.out))
 
 pub loop-s-preserved : goal.loop-s-preserved

@@ -33,19 +33,16 @@ own_effects-requires c = omega (arith, c.kind_at-kind.ensures.1)
 
 -- the blocks after a record: one more, or none
 module _ (c : Joined-kind-eq-BLOCK) where
-  abbrev read : After-kind_at-kind
-  read = c.before.before.before
-
   abbrev form : List ℕ
-  form = read.before.before.before.before.before.before.before.args.s.now
+  form = c.args.s.now
 
   abbrev at : ℕ
-  at = read.before.before.loop.at
+  at = c.loop-at.at
 
-  kind : read.kind_at.result ≡ kind_at form at
-  kind = read.kind_at.ensures.0
+  kind : c.kind_at-kind.result ≡ kind_at form at
+  kind = c.kind_at-kind.ensures.0
 
-  role : read.kind_at.result.role ≡ (kind_at form at).role
+  role : c.kind_at-kind.result.role ≡ (kind_at form at).role
   role = ap (λ (k : Kind). k.role) kind
 
   abbrev Gathered : List Block × ℕ → Type 0
@@ -56,9 +53,9 @@ module _ (c : Joined-kind-eq-BLOCK) where
 
   blocks-on : Gathered (c.if-kind-eq-BLOCK.blocks, c.if-kind-eq-BLOCK.count)
   blocks-on =
-      let list = read.before.before.loop.blocks in
-      let gathered = read.before.before.loop.inv.0 in
-      let few = read.before.before.loop.inv.1.1.0 in
+      let list = c.loop-at.blocks in
+      let gathered = c.loop-at.invariant.0 in
+      let few = c.loop-at.invariant.1.1.0 in
       ⊎_elim
       (λ w.
       let x = w.2.result in
@@ -66,46 +63,44 @@ module _ (c : Joined-kind-eq-BLOCK) where
       w.3.came in
       let own = w.1.ensures ∙ ap (λ (k : Kind). own_effects form (records_from form (at + k.length))) kind in
       let more =
-      gathering_take _ _ _ _ _ _ _ read.before.loop-test.taken _ _ gathered x _
+      gathering_take _ _ _ _ _ _ _ c.loop-at-test.true _ _ gathered x _
       (eq-eqb _ _ (sym role ∙ w.0.taken))
       (w.2.ensures ∙ ap (block_at form at) own) put in
       subst Gathered (λ i. (sym w.4 i, sym w.5 i)) (more, omega (arith, few, next_above form at)))
       (λ w.
-      let same = gathering_skip _ _ _ _ _ _ _ read.before.loop-test.taken _ _ gathered
+      let same = gathering_skip _ _ _ _ _ _ _ c.loop-at-test.true _ _ gathered
       (ne_eqb _ _ (λ e. w.0.left (role ∙ e))) in
       subst Gathered (λ i. (sym w.1 i, sym w.2 i)) (same, omega (arith, few, next_above form at)))
       c.if-kind-eq-BLOCK.branch
 
 pub loop-at-smaller-after-total-lt256 : goal.loop-at-smaller-after-total-lt256
-loop-at-smaller-after-total-lt256 c = omega (arith, (read (goal.at.loop-at-smaller-after-total-lt256 c).Joined-kind-eq-BLOCK).kind_at.ensures.1)
+loop-at-smaller-after-total-lt256 c = omega (arith, c.kind_at-kind.ensures.1)
 
 pub loop-at-smaller : goal.loop-at-smaller
-loop-at-smaller c = omega (arith, (read (goal.at.loop-at-smaller c).Joined-kind-eq-BLOCK).kind_at.ensures.1)
+loop-at-smaller c = omega (arith, c.kind_at-kind.ensures.1)
 
 pub loop-at-preserved-after-total-lt256 : goal.loop-at-preserved-after-total-lt256
 loop-at-preserved-after-total-lt256 c =
-    let turn = (read (goal.at.loop-at-preserved-after-total-lt256 c).Joined-kind-eq-BLOCK).before in
-    let list = turn.before.loop.effects in
+    let list = c.loop-at.effects in
     let x = c.effect_at-effect.result in
     let (blocks, count) = blocks-on (goal.at.loop-at-preserved-after-total-lt256 c).Joined-kind-eq-BLOCK in
     let put = ⊎_elim (λ v. placed_in list x v.0.taken v.1) (λ v. placed_past list x v.0.left v.1)
     c.if-total-lt256.branch in
     let effects =
-    gathering_take _ _ _ _ _ _ _ turn.loop-test.taken _ _ turn.before.loop.inv.1.0 x _
+    gathering_take _ _ _ _ _ _ _ c.loop-at-test.true _ _ c.loop-at.invariant.1.0 x _
     (eq-eqb _ _ (sym (role (goal.at.loop-at-preserved-after-total-lt256 c).Joined-kind-eq-BLOCK) ∙ c.if-kind-eq-EFFECT.true)) c.effect_at-effect.ensures put in
-    let few : turn.before.loop.total + 1 ≤ next (form (goal.at.loop-at-preserved-after-total-lt256 c).Joined-kind-eq-BLOCK) (at (goal.at.loop-at-preserved-after-total-lt256 c).Joined-kind-eq-BLOCK) =
-    omega (arith, turn.before.loop.inv.1.1, next_above (form (goal.at.loop-at-preserved-after-total-lt256 c).Joined-kind-eq-BLOCK) (at (goal.at.loop-at-preserved-after-total-lt256 c).Joined-kind-eq-BLOCK)) in
+    let few : c.loop-at.total + 1 ≤ next (form (goal.at.loop-at-preserved-after-total-lt256 c).Joined-kind-eq-BLOCK) (at (goal.at.loop-at-preserved-after-total-lt256 c).Joined-kind-eq-BLOCK) =
+    omega (arith, c.loop-at.invariant.1.1, next_above (form (goal.at.loop-at-preserved-after-total-lt256 c).Joined-kind-eq-BLOCK) (at (goal.at.loop-at-preserved-after-total-lt256 c).Joined-kind-eq-BLOCK)) in
     rw (kind (goal.at.loop-at-preserved-after-total-lt256 c).Joined-kind-eq-BLOCK) (blocks, (effects, (count, few)))
 
 pub loop-at-preserved : goal.loop-at-preserved
 loop-at-preserved c =
-    let turn = (read (goal.at.loop-at-preserved c).Joined-kind-eq-BLOCK).before in
     let (blocks, count) = blocks-on (goal.at.loop-at-preserved c).Joined-kind-eq-BLOCK in
     let effects =
-    gathering_skip _ _ _ _ _ _ _ turn.loop-test.taken _ _ turn.before.loop.inv.1.0
+    gathering_skip _ _ _ _ _ _ _ c.loop-at-test.true _ _ c.loop-at.invariant.1.0
     (ne_eqb _ _ (λ e. c.if-kind-eq-EFFECT.false (role (goal.at.loop-at-preserved c).Joined-kind-eq-BLOCK ∙ e))) in
-    let few : turn.before.loop.total ≤ next (form (goal.at.loop-at-preserved c).Joined-kind-eq-BLOCK) (at (goal.at.loop-at-preserved c).Joined-kind-eq-BLOCK) =
-    omega (arith, turn.before.loop.inv.1.1, next_above (form (goal.at.loop-at-preserved c).Joined-kind-eq-BLOCK) (at (goal.at.loop-at-preserved c).Joined-kind-eq-BLOCK)) in
+    let few : c.loop-at.total ≤ next (form (goal.at.loop-at-preserved c).Joined-kind-eq-BLOCK) (at (goal.at.loop-at-preserved c).Joined-kind-eq-BLOCK) =
+    omega (arith, c.loop-at.invariant.1.1, next_above (form (goal.at.loop-at-preserved c).Joined-kind-eq-BLOCK) (at (goal.at.loop-at-preserved c).Joined-kind-eq-BLOCK)) in
     rw (kind (goal.at.loop-at-preserved c).Joined-kind-eq-BLOCK) (blocks, (effects, (count, few)))
 
 pub returns : goal.returns
