@@ -10,10 +10,10 @@ use Rattle.form.specs.declared.Block.{Block}
 use Rattle.form.specs.declared.Kind.{Kind}
 use Rattle.form.specs.Records.{next, next_above}
 use Rattle.form.specs.Form.{kind_at, block_at, own_effects, blocks_in, effects_in, records_from, zero_block, zero_effect, fill}
-use Rattle.form.specs.Filling.{Gathering, gathering_start, gathering_end, gathering_take, gathering_skip, placed_in}
+use Rattle.form.specs.Filling.{Gathering, gathering_start, gathering_end, gathering_take, gathering_skip, placed_in, placed}
 use Rattle.form.specs.Filling.{placed_past}
 use Rattle.reader.proofs.body_of.Goals as goal
-use Rattle.reader.proofs.body_of.Goals.{After-kind_at-kind, Joined-kind-eq-BLOCK}
+use Rattle.reader.proofs.body_of.Goals.{Joined-kind-eq-BLOCK, then-kind-eq-BLOCK, else-kind-eq-BLOCK, then-count-lt64, else-count-lt64, then-total-lt256, else-total-lt256}
 
 pub loop-at-init : goal.loop-at-init
 unfolding fill
@@ -56,22 +56,25 @@ module _ (c : Joined-kind-eq-BLOCK) where
       let list = c.loop-at.blocks in
       let gathered = c.loop-at.invariant.0 in
       let few = c.loop-at.invariant.1.1.0 in
-      ⊎_elim
-      (λ w.
-      let x = w.2.result in
-      let put = ⊎_elim (λ v. placed_in list x v.0.taken v.1) (λ v. placed_past list x v.0.left v.1)
-      w.3.came in
-      let own = w.1.ensures ∙ ap (λ (k : Kind). own_effects form (records_from form (at + k.length))) kind in
-      let more =
-      gathering_take _ _ _ _ _ _ _ c.loop-at-test.true _ _ gathered x _
-      (eq-eqb _ _ (sym role ∙ w.0.taken))
-      (w.2.ensures ∙ ap (block_at form at) own) put in
-      subst Gathered (λ i. (sym w.4 i, sym w.5 i)) (more, omega (arith, few, next_above form at)))
-      (λ w.
-      let same = gathering_skip _ _ _ _ _ _ _ c.loop-at-test.true _ _ gathered
-      (ne_eqb _ _ (λ e. w.0.left (role ∙ e))) in
-      subst Gathered (λ i. (sym w.1 i, sym w.2 i)) (same, omega (arith, few, next_above form at)))
-      c.if-kind-eq-BLOCK.branch
+      elim c.if-kind-eq-BLOCK.branch [
+        then-kind-eq-BLOCK w ↦
+            let x = w.block_at-block.result in
+            let put : w.if-count-lt64.blocks ≡ placed 64 list c.loop-at.count x = elim w.if-count-lt64.branch [
+              then-count-lt64 v ↦ placed_in list x v.if-count-lt64.true v.blocks-is
+            | else-count-lt64 v ↦ placed_past list x v.if-count-lt64.false v.blocks-is
+            ] in
+            let own = w.own_effects.ensures
+                ∙ ap (λ (k : Kind). own_effects form (records_from form (at + k.length))) kind in
+            let more =
+                gathering_take _ _ _ _ _ _ _ c.loop-at-test.true _ _ gathered x _
+                (eq-eqb _ _ (sym role ∙ w.if-kind-eq-BLOCK.true))
+                (w.block_at-block.ensures ∙ ap (block_at form at) own) put in
+            subst Gathered (λ i. (sym w.blocks-is i, sym w.count-is i)) (more, omega (arith, few, next_above form at))
+      | else-kind-eq-BLOCK w ↦
+            let same = gathering_skip _ _ _ _ _ _ _ c.loop-at-test.true _ _ gathered
+                (ne_eqb _ _ (λ e. w.if-kind-eq-BLOCK.false (role ∙ e))) in
+            subst Gathered (λ i. (sym w.blocks-is i, sym w.count-is i)) (same, omega (arith, few, next_above form at))
+      ]
 
 pub loop-at-smaller-after-total-lt256 : goal.loop-at-smaller-after-total-lt256
 loop-at-smaller-after-total-lt256 c = omega (arith, c.kind_at-kind.ensures.1)
@@ -84,8 +87,10 @@ loop-at-preserved-after-total-lt256 c =
     let list = c.loop-at.effects in
     let x = c.effect_at-effect.result in
     let (blocks, count) = blocks-on (goal.at.loop-at-preserved-after-total-lt256 c).Joined-kind-eq-BLOCK in
-    let put = ⊎_elim (λ v. placed_in list x v.0.taken v.1) (λ v. placed_past list x v.0.left v.1)
-    c.if-total-lt256.branch in
+    let put : c.if-total-lt256.effects ≡ placed 256 list c.loop-at.total x = elim c.if-total-lt256.branch [
+      then-total-lt256 v ↦ placed_in list x v.if-total-lt256.true v.effects-is
+    | else-total-lt256 v ↦ placed_past list x v.if-total-lt256.false v.effects-is
+    ] in
     let effects =
     gathering_take _ _ _ _ _ _ _ c.loop-at-test.true _ _ c.loop-at.invariant.1.0 x _
     (eq-eqb _ _ (sym (role (goal.at.loop-at-preserved-after-total-lt256 c).Joined-kind-eq-BLOCK) ∙ c.if-kind-eq-EFFECT.true)) c.effect_at-effect.ensures put in
