@@ -1,6 +1,7 @@
 // What both ways work on: the plan's words of a block, each by its name (theory's Plan). A way, and a side of a set of
 // edges, is 1 (jump or go) or 2 (fall). The plan itself is made by the crate plan.
 #![tactic(auto)]
+
 ghost use Rattle.std.specs.Prelude.{◌≡◌, ◌<◌, length};
 ghost use Rattle.theory.specs.Plan.{test_at, target_at, touched_at, denied_at, against_at, listed_at, cost_at};
 

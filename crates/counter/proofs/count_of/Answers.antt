@@ -8,7 +8,6 @@ use Rattle.counter.proofs.count_of.Goals as goal
 pub returns : goal.returns
 returns c =
     let t = c.struct_told-3-1.given in
-    
     let fi : SFits w32 c.args.counter.initial = record { sfits = t.0.1 } in
     let fs : SFits w32 c.args.counter.step = record { sfits = t.1.0.1 } in
     let fl : SFits w32 c.args.counter.limit = record { sfits = t.1.1.1.0.1 } in

@@ -4,7 +4,7 @@ use lib.Dec.{eqb}
 use lib.IntN.{ℤ}
 use mir.Syntax.{w64}
 use mir.Val.{of_z}
-use Rattle.laws.specs.Signed.{quot_asks, rem_gives}
+use Rattle.laws.specs.Signed.{rem_gives}
 use Rattle.counter.proofs.divides.Goals as goal
 
 pub returns : goal.returns

@@ -22,12 +22,11 @@ unfolding later
 returns-then-gap-le0 c = rw (none-up c, zero-mod, zero-div)
 
 asked : (c : Else-gap-le0) → (dn c.args.gap ≡ 0) × (0 < up c.args.step)
-asked c =
-    (
-      no_dn c.args.gap
-          (omega (arith, le_z_false c.args.gap (pos 0) (rw (to_z-of_z c.ranges.gap) at c.if-gap-le0.false))),
-      c.requires,
-    )
+asked c = (
+  no_dn c.args.gap
+      (omega (arith, le_z_false c.args.gap (pos 0) (rw (to_z-of_z c.ranges.gap) at c.if-gap-le0.false))),
+  c.requires,
+)
 
 pub divides-requires : goal.divides-requires
 divides-requires c = rw (to_z-of_z c.ranges.gap, to_z-of_z c.ranges.step) (asked c)

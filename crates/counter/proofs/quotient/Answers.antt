@@ -4,7 +4,7 @@ use native.Mathlib.Nat.{div-le_self}
 use native.Mathlib.Omega.{arith}
 use lib.IntN.{nat_abs}
 use Rattle.laws.specs.Whole.{up}
-use Rattle.laws.specs.Signed.{sfits_up, quot_asks, quot_gives}
+use Rattle.laws.specs.Signed.{sfits_up, quot_gives}
 use Rattle.counter.proofs.quotient.Goals as goal
 
 pub overflow_cast-result : goal.overflow_cast-result

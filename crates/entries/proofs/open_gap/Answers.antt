@@ -1,9 +1,8 @@
 -- `entries::open_gap` meets its contract.
-use mathlib.Core.Path.{◌≡◌, sym, ap, subst, ◌∙◌}
+use mathlib.Core.Path.{sym, ap, subst, ◌∙◌}
 use mathlib.Core.List.{List}
-use Prim.Native.Nat.{ℕ, ◌-◌, ◌≤◌}
+use Prim.Native.Nat.{ℕ, ◌-◌}
 use native.Mathlib.Omega.{arith}
-use lib.ListN.{length}
 use Rattle.entries.specs.Entries.{Moving, moving_none, moving_more, moving_end, entry_put}
 use Rattle.entries.specs.Structs.{tuple_of}
 use Rattle.entries.proofs.open_gap.Goals as goal

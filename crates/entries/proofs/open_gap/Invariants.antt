@@ -1,12 +1,9 @@
 -- `entries::open_gap` meets its contract. The loop's invariant: the entries from i on are moved, those up to i are as
 -- they were. The measure is i.
-use mathlib.Core.Path.{◌≡◌, sym, ap, subst, ◌∙◌}
-use mathlib.Core.List.{List}
-use Prim.Native.Nat.{ℕ, ◌-◌, ◌≤◌}
-use native.Mathlib.Omega.{arith}
+use mathlib.Core.Path.{◌≡◌}
+use Prim.Native.Nat.{◌≤◌}
 use lib.ListN.{length}
-use Rattle.entries.specs.Entries.{Moving, moving_none, moving_more, moving_end, entry_put}
-use Rattle.entries.specs.Structs.{tuple_of}
+use Rattle.entries.specs.Entries.{Moving}
 use Rattle.entries.proofs.open_gap.Given as goal
 
 abbrev pub invariant-loop-i : goal.invariant-loop-i

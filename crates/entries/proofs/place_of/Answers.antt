@@ -1,10 +1,7 @@
 -- `entries::place_of` meets its contract.
 use mathlib.Core.Path.{◌≡◌, sym, ◌∙◌, ap}
-use mathlib.Core.Bool.{true}
-use Prim.Native.Nat.{ℕ, ◌-◌, ◌≤◌, ◌<◌}
 use native.Mathlib.Omega.{arith}
 use borrow.Author.Count.{below_more}
-use borrow.Author.Tests.{not-true, not-false}
 use Rattle.theory.specs.Row.{key_before}
 use Rattle.entries.specs.Entries.{entry_at}
 use Rattle.entries.specs.declared.Entry.{Entry}

@@ -1,14 +1,10 @@
 -- `entries::place_of` meets its contract. The loop's invariant: every entry passed has a lower key. The measure is what
 -- is left of the entries.
-use mathlib.Core.Path.{◌≡◌, sym, ◌∙◌, ap}
+use mathlib.Core.Path.{◌≡◌}
 use mathlib.Core.Bool.{true}
 use Prim.Native.Nat.{ℕ, ◌-◌, ◌≤◌, ◌<◌}
-use native.Mathlib.Omega.{arith}
-use borrow.Author.Count.{below_more}
-use borrow.Author.Tests.{not-true, not-false}
 use Rattle.theory.specs.Row.{key_before}
 use Rattle.entries.specs.Entries.{entry_at}
-use Rattle.entries.specs.declared.Entry.{Entry}
 use Rattle.entries.proofs.place_of.Given as goal
 
 abbrev pub invariant-loop-p : goal.invariant-loop-p

@@ -1,9 +1,7 @@
 -- `list_bytes::all_entries` meets its contract.
-use Prim.Native.Nat.{◌-◌, ◌≤◌}
 use native.Mathlib.Omega.{arith}
-use Rattle.laws.specs.Terms.{each, range}
-use Rattle.lent.specs.Adding.{Adds, nothing, as_long}
-use Rattle.list_bytes.specs.Listing.{block_bytes, all_room, all_next, all_done}
+use Rattle.lent.specs.Adding.{nothing, as_long}
+use Rattle.list_bytes.specs.Listing.{all_room, all_next, all_done}
 use Rattle.list_bytes.proofs.all_entries.Goals as goal
 
 pub loop-s-init : goal.loop-s-init
@@ -20,7 +18,6 @@ edge_entries-next-requires c =
 pub edge_entries-at-requires : goal.edge_entries-at-requires
 edge_entries-at-requires c =
     let a = c.args in
-    
     let room = all_room a.variable.now a.a1.now a.j1.now a.f1.now a.a2.now
     a.j2.now a.f2.now c.loop-s.s c.loop-s.invariant.1 (omega arith)
     c.requires.1 in
@@ -28,9 +25,7 @@ edge_entries-at-requires c =
 
 pub loop-s-preserved : goal.loop-s-preserved
 loop-s-preserved c =
-    let a = c.args in
-    
-    (
+    let a = c.args in (
       omega arith,
       all_next a.variable.now a.a1.now a.j1.now a.f1.now a.a2.now a.j2.now
           a.f2.now c.loop-s.s c.loop-s.invariant.1 c.edge_entries-next.ensures

@@ -1,10 +1,9 @@
 -- `list_bytes::all_entries` meets its contract. The loop's invariant: the entries of the blocks below s stand from the
 -- first byte on. The measure is what is left of the 64.
 use Prim.Native.Nat.{◌-◌, ◌≤◌}
-use native.Mathlib.Omega.{arith}
 use Rattle.laws.specs.Terms.{each, range}
-use Rattle.lent.specs.Adding.{Adds, nothing, as_long}
-use Rattle.list_bytes.specs.Listing.{block_bytes, all_room, all_next, all_done}
+use Rattle.lent.specs.Adding.{Adds}
+use Rattle.list_bytes.specs.Listing.{block_bytes}
 use Rattle.list_bytes.proofs.all_entries.Given as goal
 
 abbrev pub invariant-loop-s : goal.invariant-loop-s

@@ -1,9 +1,7 @@
 -- `list_bytes::entries` meets its contract.
-use Prim.Native.Nat.{◌-◌, ◌≤◌}
 use native.Mathlib.Omega.{arith}
-use Rattle.laws.specs.Terms.{each, range}
-use Rattle.lent.specs.Adding.{Adds, nothing, as_long}
-use Rattle.list_bytes.specs.Laying.{turn_bytes, turn_room, turn_next, word_done}
+use Rattle.lent.specs.Adding.{nothing, as_long}
+use Rattle.list_bytes.specs.Laying.{turn_room, turn_next, word_done}
 use Rattle.list_bytes.proofs.entries.Goals as goal
 
 pub loop-f-init : goal.loop-f-init
@@ -27,15 +25,14 @@ entry-at-requires c =
     ((omega arith, c.requires.0), omega (arith, c.entry-next.ensures.end, c.entry-next.auto.out))
 
 pub loop-f-preserved : goal.loop-f-preserved
-loop-f-preserved c =
-    (
-      omega arith,
-      turn_next c.args.kind c.args.word c.args.third c.args.other c.args.another
-          c.args.second c.args.outcome c.loop-f.f
-          c.has-one.ensures
-          c.has-two.ensures c.loop-f.invariant.1
-          c.entry-next.ensures c.entry-at.ensures,
-    )
+loop-f-preserved c = (
+  omega arith,
+  turn_next c.args.kind c.args.word c.args.third c.args.other c.args.another
+      c.args.second c.args.outcome c.loop-f.f
+      c.has-one.ensures
+      c.has-two.ensures c.loop-f.invariant.1
+      c.entry-next.ensures c.entry-at.ensures,
+)
 
 pub shape_of-out : goal.shape_of-out
 shape_of-out c = as_long c.loop-f.invariant.1

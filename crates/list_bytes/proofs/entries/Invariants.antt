@@ -1,10 +1,9 @@
 -- `list_bytes::entries` meets its contract. The loop's invariant: the entries of the blocks below f stand from `start`
 -- on. The measure is what is left of the 64.
 use Prim.Native.Nat.{◌-◌, ◌≤◌}
-use native.Mathlib.Omega.{arith}
 use Rattle.laws.specs.Terms.{each, range}
-use Rattle.lent.specs.Adding.{Adds, nothing, as_long}
-use Rattle.list_bytes.specs.Laying.{turn_bytes, turn_room, turn_next, word_done}
+use Rattle.lent.specs.Adding.{Adds}
+use Rattle.list_bytes.specs.Laying.{turn_bytes}
 use Rattle.list_bytes.proofs.entries.Given as goal
 
 abbrev pub invariant-loop-f : goal.invariant-loop-f

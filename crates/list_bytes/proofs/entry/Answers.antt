@@ -4,7 +4,6 @@ use native.Mathlib.Omega.{arith}
 use lib.ListN.{length, length-set}
 use Rattle.lent.specs.Adding.{nothing}
 use Rattle.list_bytes.specs.Laying.{five}
-use borrow.Author.Tests.{not-true, not-false}
 use Rattle.list_bytes.proofs.entry.Goals as goal
 use Rattle.list_bytes.proofs.entry.Goals.{Else-not-on}
 

@@ -1,11 +1,10 @@
 -- `list_bytes::number_of` meets its contract. The loop's invariant: n is the sum of the rows below s. The measure is
 -- what is left of the 64.
-use mathlib.Core.Path.{◌≡◌, sym, ap, ◌∙◌}
-use Prim.Native.Nat.{ℕ, ◌+◌, ◌*◌, ◌-◌, ◌≤◌}
-use native.Mathlib.Omega.{arith}
+use mathlib.Core.Path.{◌≡◌}
+use Prim.Native.Nat.{◌+◌, ◌*◌, ◌-◌, ◌≤◌}
 use lib.Count.{ones}
 use lib.ListN.{get_or}
-use Rattle.laws.specs.Sums.{sum, sum_none, sum_last}
+use Rattle.laws.specs.Sums.{sum}
 use Rattle.list_bytes.proofs.number_of.Given as goal
 
 abbrev pub invariant-loop-s : goal.invariant-loop-s

@@ -3,7 +3,7 @@ use mathlib.Core.Path.{◌≡◌, refl}
 use Prim.Native.Nat.{ℕ, ◌+◌, ◌-◌, ◌≤◌, ◌<◌}
 use native.Mathlib.Omega.{arith}
 use Rattle.words.specs.Filled.{fits_8, below_256}
-use Rattle.path_sets.specs.Leading.{Leading, leading_none, leading_more, leading_end}
+use Rattle.path_sets.specs.Leading.{leading_none, leading_more, leading_end}
 use Rattle.path_sets.proofs.leads_of.Goals as goal
 use Rattle.path_sets.proofs.leads_of.Goals.{After-put-here}
 
@@ -35,13 +35,12 @@ put-here-requires c =
     inside c.loop-b-test.true c.loop-b.invariant.0
 
 pub loop-b-preserved : goal.loop-b-preserved
-loop-b-preserved c =
-    (
-      within (bounds-jump-b (goal.at.loop-b-preserved c).After-put-here),
-      leading_more _ _ _ c.requires c.loop-b.b _ _ _ _ _ (bounds-jump-b (goal.at.loop-b-preserved c).After-put-here) (next c.loop-b-test.true)
-          c.loop-b.invariant.1 _ _ _ _ _ c.word_at-j.ensures c.word_at-f.ensures c.either-led.ensures
-          c.put-here.ensures c.less.ensures,
-    )
+loop-b-preserved c = (
+  within (bounds-jump-b (goal.at.loop-b-preserved c).After-put-here),
+  leading_more _ _ _ c.requires c.loop-b.b _ _ _ _ _ (bounds-jump-b (goal.at.loop-b-preserved c).After-put-here) (next c.loop-b-test.true)
+      c.loop-b.invariant.1 _ _ _ _ _ c.word_at-j.ensures c.word_at-f.ensures c.either-led.ensures
+      c.put-here.ensures c.less.ensures,
+)
 
 pub returns : goal.returns
 returns c =

@@ -1,9 +1,6 @@
 -- `path_sets::leads_of` meets its contract. The loop's invariant: the blocks from b on are done. The measure is b.
-use mathlib.Core.Path.{◌≡◌, refl}
-use Prim.Native.Nat.{ℕ, ◌+◌, ◌-◌, ◌≤◌, ◌<◌}
-use native.Mathlib.Omega.{arith}
-use Rattle.words.specs.Filled.{fits_8, below_256}
-use Rattle.path_sets.specs.Leading.{Leading, leading_none, leading_more, leading_end}
+use Prim.Native.Nat.{◌≤◌}
+use Rattle.path_sets.specs.Leading.{Leading}
 use Rattle.path_sets.proofs.leads_of.Given as goal
 
 abbrev pub invariant-loop-b : goal.invariant-loop-b

@@ -2,12 +2,12 @@
 use mathlib.Core.Path.{◌≡◌, refl, sym, ◌∙◌}
 use mathlib.Core.Bool.{◌||◌}
 use mathlib.Core.List.{List}
-use Prim.Native.Nat.{ℕ, ◌+◌, ◌-◌, ◌≤◌}
+use Prim.Native.Nat.{ℕ, ◌+◌}
 use native.Mathlib.Omega.{arith}
 use Rattle.laws.specs.Terms.{bit}
 use Rattle.laws.specs.Sets.{bit_none}
-use Rattle.words.specs.Filled.{any_last, below_256, fits_8, fits_next, less_left, next_within}
-use Rattle.words.specs.Filled.{Told, told_none, told_more, told_end}
+use Rattle.words.specs.Filled.{any_last, below_256, fits_8, next_within}
+use Rattle.words.specs.Filled.{told_none, told_more, told_end}
 use Rattle.path_sets.specs.declared.Leads.{Leads}
 use Rattle.path_sets.specs.Parts.{pairs, ListedAt}
 use Rattle.path_sets.proofs.listed_by.Goals as goal

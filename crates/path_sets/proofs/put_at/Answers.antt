@@ -1,7 +1,7 @@
 -- `path_sets::put_at` meets its contract.
-use Prim.Native.Nat.{◌^◌, ◌<◌}
+use Prim.Native.Nat.{◌<◌}
 use native.Mathlib.Omega.{arith}
-use Rattle.path_sets.specs.Turning.{Putting, putting_none, putting_more, putting_end}
+use Rattle.path_sets.specs.Turning.{putting_none, putting_more, putting_end}
 use Rattle.path_sets.proofs.put_at.Goals as goal
 
 pub loop-left-init : goal.loop-left-init

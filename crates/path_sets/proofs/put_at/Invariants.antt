@@ -1,8 +1,7 @@
 -- `path_sets::put_at` meets its contract. The loop's invariant: b is in the words at the numbers that are not left. The
 -- measure is what is left.
 use Prim.Native.Nat.{◌^◌, ◌<◌}
-use native.Mathlib.Omega.{arith}
-use Rattle.path_sets.specs.Turning.{Putting, putting_none, putting_more, putting_end}
+use Rattle.path_sets.specs.Turning.{Putting}
 use Rattle.path_sets.proofs.put_at.Given as goal
 
 abbrev pub invariant-loop-left : goal.invariant-loop-left

@@ -1,15 +1,13 @@
 -- `reader::body_of` meets its contract.
 use mathlib.Core.List.{List}
 use mathlib.Core.Path.{◌≡◌, ap, sym, subst, ◌∙◌}
-use mathlib.Core.Logic.{⊎_elim}
-use Prim.Native.Nat.{ℕ, ◌+◌, ◌≤◌, ◌-◌}
+use Prim.Native.Nat.{ℕ, ◌+◌, ◌≤◌}
 use native.Mathlib.Omega.{arith}
 use borrow.Author.Tests.{eq-eqb, ne_eqb}
-use lib.ListN.{length}
 use Rattle.form.specs.declared.Block.{Block}
 use Rattle.form.specs.declared.Kind.{Kind}
 use Rattle.form.specs.Records.{next, next_above}
-use Rattle.form.specs.Form.{kind_at, block_at, own_effects, blocks_in, effects_in, records_from, zero_block, zero_effect, fill}
+use Rattle.form.specs.Form.{kind_at, block_at, own_effects, blocks_in, records_from, zero_block, fill}
 use Rattle.form.specs.Filling.{Gathering, gathering_start, gathering_end, gathering_take, gathering_skip, placed_in, placed}
 use Rattle.form.specs.Filling.{placed_past}
 use Rattle.reader.proofs.body_of.Goals as goal
@@ -57,22 +55,22 @@ module _ (c : Joined-kind-eq-BLOCK) where
       let gathered = c.loop-at.invariant.0 in
       let few = c.loop-at.invariant.1.1.0 in
       elim c.if-kind-eq-BLOCK.branch [
-        then-kind-eq-BLOCK w ↦
+        | then-kind-eq-BLOCK w ↦
             let x = w.block_at-block.result in
             let put : w.if-count-lt64.blocks ≡ placed 64 list c.loop-at.count x = elim w.if-count-lt64.branch [
-              then-count-lt64 v ↦ placed_in list x v.if-count-lt64.true v.blocks-is
-            | else-count-lt64 v ↦ placed_past list x v.if-count-lt64.false v.blocks-is
+              | then-count-lt64 v ↦ placed_in list x v.if-count-lt64.true v.blocks-is
+              | else-count-lt64 v ↦ placed_past list x v.if-count-lt64.false v.blocks-is
             ] in
             let own = w.own_effects.ensures
-                ∙ ap (λ (k : Kind). own_effects form (records_from form (at + k.length))) kind in
+            ∙ ap (λ (k : Kind). own_effects form (records_from form (at + k.length))) kind in
             let more =
-                gathering_take _ _ _ _ _ _ _ c.loop-at-test.true _ _ gathered x _
-                (eq-eqb _ _ (sym role ∙ w.if-kind-eq-BLOCK.true))
-                (w.block_at-block.ensures ∙ ap (block_at form at) own) put in
+            gathering_take _ _ _ _ _ _ _ c.loop-at-test.true _ _ gathered x _
+            (eq-eqb _ _ (sym role ∙ w.if-kind-eq-BLOCK.true))
+            (w.block_at-block.ensures ∙ ap (block_at form at) own) put in
             subst Gathered (λ i. (sym w.blocks-is i, sym w.count-is i)) (more, omega (arith, few, next_above form at))
-      | else-kind-eq-BLOCK w ↦
+        | else-kind-eq-BLOCK w ↦
             let same = gathering_skip _ _ _ _ _ _ _ c.loop-at-test.true _ _ gathered
-                (ne_eqb _ _ (λ e. w.if-kind-eq-BLOCK.false (role ∙ e))) in
+            (ne_eqb _ _ (λ e. w.if-kind-eq-BLOCK.false (role ∙ e))) in
             subst Gathered (λ i. (sym w.blocks-is i, sym w.count-is i)) (same, omega (arith, few, next_above form at))
       ]
 
@@ -88,8 +86,8 @@ loop-at-preserved-after-total-lt256 c =
     let x = c.effect_at-effect.result in
     let (blocks, count) = blocks-on (goal.at.loop-at-preserved-after-total-lt256 c).Joined-kind-eq-BLOCK in
     let put : c.if-total-lt256.effects ≡ placed 256 list c.loop-at.total x = elim c.if-total-lt256.branch [
-      then-total-lt256 v ↦ placed_in list x v.if-total-lt256.true v.effects-is
-    | else-total-lt256 v ↦ placed_past list x v.if-total-lt256.false v.effects-is
+      | then-total-lt256 v ↦ placed_in list x v.if-total-lt256.true v.effects-is
+      | else-total-lt256 v ↦ placed_past list x v.if-total-lt256.false v.effects-is
     ] in
     let effects =
     gathering_take _ _ _ _ _ _ _ c.loop-at-test.true _ _ c.loop-at.invariant.1.0 x _

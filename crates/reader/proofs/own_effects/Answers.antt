@@ -1,8 +1,7 @@
 -- `reader::own_effects` meets its contract.
-use mathlib.Core.Path.{◌≡◌, ap, sym, ◌∙◌}
-use Prim.Native.Nat.{◌+◌, ◌≤◌, ◌-◌}
+use mathlib.Core.Path.{ap, sym, ◌∙◌}
+use Prim.Native.Nat.{◌+◌}
 use native.Mathlib.Omega.{arith}
-use lib.ListN.{length}
 use Rattle.form.specs.declared.Kind.{Kind}
 use Rattle.form.specs.Form.{own_effects, records_from}
 use Rattle.form.specs.Records.{own_more, own_none, own_end}

@@ -1,12 +1,9 @@
 -- `reader::own_effects` meets its contract. The loop's invariant: those counted and those left are all. The measure is
 -- what is left of the bytes.
-use mathlib.Core.Path.{◌≡◌, ap, sym, ◌∙◌}
+use mathlib.Core.Path.{◌≡◌}
 use Prim.Native.Nat.{◌+◌, ◌≤◌, ◌-◌}
-use native.Mathlib.Omega.{arith}
 use lib.ListN.{length}
-use Rattle.form.specs.declared.Kind.{Kind}
 use Rattle.form.specs.Form.{own_effects, records_from}
-use Rattle.form.specs.Records.{own_more, own_none, own_end}
 use Rattle.reader.proofs.own_effects.Given as goal
 
 abbrev pub invariant-loop-at : goal.invariant-loop-at

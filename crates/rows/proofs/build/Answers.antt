@@ -1,13 +1,13 @@
 -- `rows::build` meets its contract.
 use mathlib.Core.Path.{◌≡◌, sym, ap, subst, ◌∙◌}
-use Prim.Native.Nat.{ℕ, ◌+◌, ◌-◌, ◌^◌, ◌≤◌, ◌<◌}
+use Prim.Native.Nat.{ℕ, ◌+◌, ◌^◌, ◌<◌}
 use native.Mathlib.Omega.{arith}
 use lib.ListN.{length}
 use Rattle.laws.specs.Terms.{Choice, heaviest, lightest, chosen}
 use Rattle.entries.specs.declared.Entry.{Entry}
 use Rattle.entries.specs.Entries.{entry_at, entries_from, Grown}
 use Rattle.entries.specs.Structs.{tuple_of}
-use Rattle.rows.specs.Rows.{source_of, many_of, tails_by, many_few, pushed, poured, left_from, Filling, filling_start, filling_same, filling_end, grown_past, AtTail, at_first, at_next, at_over, at_last, ways_end, way_next, way_over}
+use Rattle.rows.specs.Rows.{source_of, many_of, tails_by, many_few, pushed, filling_start, filling_same, filling_end, grown_past, at_first, at_next, at_over, at_last, ways_end, way_next, way_over}
 use Rattle.rows.proofs.build.Goals as goal
 use Rattle.rows.proofs.build.Goals.{After-add_tail-held, After-tail_of-tail, In-loop-i, Start}
 
@@ -39,7 +39,6 @@ new-size c = c.add_tail-held.auto.row ∙ c.loop-i.invariant.0.size
 
 grown : (c : After-add_tail-held)
     → (
-    
     let a = c.args in
     let way = c.ways.way in
     Grown (pushed c.half_of-jumps.result c.half_of-falls.result c.cost-cost.result
@@ -53,7 +52,7 @@ grown c =
     c.tail_of-tail.ensures c.add_tail-held.ensures
 
 pub ways-init : goal.ways-init
-ways-init c = 
+ways-init c =
     (filling_start _ _ _ c.requires.row_len.1 c.requires.row_len.0, omega arith)
 
 pub half_of-jumps-requires : goal.half_of-jumps-requires

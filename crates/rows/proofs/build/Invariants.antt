@@ -1,15 +1,9 @@
 -- `rows::build` meets its contract. The outer loop's invariant: with the ways from this one on, the row is the whole
 -- one; the inner loop's: with the tails from i on, it is
 -- the row with all tails by this way. The measures are the ways and the tails that are left.
-use mathlib.Core.Path.{◌≡◌, sym, ap, subst, ◌∙◌}
-use Prim.Native.Nat.{ℕ, ◌+◌, ◌-◌, ◌^◌, ◌≤◌, ◌<◌}
-use native.Mathlib.Omega.{arith}
-use lib.ListN.{length}
-use Rattle.laws.specs.Terms.{Choice, heaviest, lightest, chosen}
-use Rattle.entries.specs.declared.Entry.{Entry}
-use Rattle.entries.specs.Entries.{entry_at, entries_from, Grown}
-use Rattle.entries.specs.Structs.{tuple_of}
-use Rattle.rows.specs.Rows.{source_of, many_of, tails_by, many_few, pushed, poured, left_from, Filling, filling_start, filling_same, filling_end, grown_past, AtTail, at_first, at_next, at_over, at_last, ways_end, way_next, way_over}
+use Prim.Native.Nat.{◌-◌, ◌≤◌, ◌<◌}
+use Rattle.entries.specs.Entries.{entries_from}
+use Rattle.rows.specs.Rows.{source_of, tails_by, poured, left_from, Filling, AtTail}
 use Rattle.rows.proofs.build.Given as goal
 
 abbrev pub invariant-loop-i : goal.invariant-loop-i
