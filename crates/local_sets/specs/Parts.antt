@@ -1,6 +1,7 @@
 -- What the private functions' contracts say of the words and lists that they pass on. Rests on form's Conflict and on
 -- words.Filled.
-use Rattle.std.specs.Prelude.{◌≡◌, not, ◌&&◌, List, ℕ, zero, suc, ◌+◌, ◌<◌, eqb, ltb, ℤ, pos, length, get_or, take, drop}
+use Rattle.std.specs.Prelude.{◌≡◌, not, ◌&&◌, List, ℕ, zero, suc, ◌+◌, ◌<◌, eqb, ltb, ℤ, pos}
+use Rattle.std.specs.Prelude.{length, get_or, take, drop}
 use Rattle.laws.specs.Terms.{bit, any_of}
 use Rattle.words.specs.Filled.{Told}
 use Rattle.form.specs.declared.Block.{Block}

@@ -1,6 +1,7 @@
 -- One turn of the loops over effects, over a block's effects and over blocks. Rests on Parts and on lower_laws'
 -- Effects.
-use Rattle.std.specs.Prelude.{◌≡◌, Bool, true, false, not, ◌&&◌, ◌||◌, List, [], ◌∷◌, ◌++◌, ℕ, ◌+◌, eqb, pos, length, get_or, take, drop}
+use Rattle.std.specs.Prelude.{◌≡◌, Bool, true, false, not, ◌&&◌, ◌||◌, List, [], ◌∷◌, ◌++◌, ℕ, ◌+◌}
+use Rattle.std.specs.Prelude.{eqb, pos, length, get_or, take, drop}
 use Rattle.std.proofs.Common.{sym, ap, ap₂, ◌∙◌, add-one}
 use Rattle.laws.specs.Terms.{bit}
 use Rattle.laws.specs.Tests.{eqb_swap}
@@ -12,7 +13,8 @@ use Rattle.lower_laws.specs.PairTest.{shares, equal_is}
 use Rattle.lower_laws.specs.Effects.{Reached, Within, reached_next, own_part, any_of_last, refuses_more, touch_turn}
 use Rattle.lower_laws.specs.Effects.{deny_turn}
 use Rattle.local_sets.specs.declared.Tests.{Tests}
-use Rattle.local_sets.specs.Parts.{TouchedBy, DeniedBy, condition_at, OnAt, MarkAt, HitsOf, passed, own_effects, OpposedIn}
+use Rattle.local_sets.specs.Parts.{TouchedBy, DeniedBy, condition_at, OnAt, MarkAt, HitsOf, passed}
+use Rattle.local_sets.specs.Parts.{own_effects, OpposedIn}
 
 nothing : (j : ℕ) (t : Bool) → bit 0 j ≡ (t && false)
 nothing j true = bit_none j

@@ -3,6 +3,7 @@
 // path_sets what paths join (Found, and its Sets). Where each block's jump and fall lead; 64 where it has no such
 // way.
 #![tactic(auto)]
+
 #[derive(Clone, Copy)]
 pub struct Targets {
     pub jump: [usize; 64],

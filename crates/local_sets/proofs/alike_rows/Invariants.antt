@@ -1,11 +1,7 @@
 -- `local_sets::alike_rows` meets its contract. The loop's invariant: the rows below b are right. The measure is what
 -- is left of the 64.
-use mathlib.Core.Path.{refl, ap₂, ◌∙◌}
-use mathlib.Core.Bool.{◌&&◌}
 use Prim.Native.Nat.{◌-◌, ◌≤◌}
-use native.Mathlib.Omega.{arith}
-use lib.ListN.{get_or}
-use Rattle.words.specs.Filled.{in_room, fits_8, fits_byte, Told, told_none, told_more, told_end}
+use Rattle.words.specs.Filled.{Told}
 use Rattle.local_sets.specs.Parts.{OnVariable, AlikeAt}
 use Rattle.local_sets.proofs.alike_rows.Given as goal
 

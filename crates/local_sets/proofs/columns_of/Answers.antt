@@ -1,9 +1,9 @@
 -- `local_sets::columns_of` meets its contract.
 use mathlib.Core.Path.{◌≡◌, refl, ap, ◌∙◌}
-use Prim.Native.Nat.{◌-◌, ◌≤◌}
+use Prim.Native.Nat.{◌≤◌}
+use borrow.Author.Rules.{rules}
 use native.Mathlib.Omega.{arith}
 use lib.Dec.{eqb}
-use lib.IntN.{pos}
 use lib.ListN.{length, length-take, take}
 use mir.Syntax.{w32}
 use mir.Val.{SFits}
@@ -12,8 +12,8 @@ use Rattle.form.specs.declared.Block.{Block}
 use Rattle.form.specs.Conflict.{no_block}
 use Rattle.form.specs.Relation.{opposite}
 use Rattle.lower_laws.specs.Blocks.{taken, beyond}
-use Rattle.words.specs.Filled.{in_room, fits_4, fits_8, fits_next, below_256, next_within, less_left, Upto, upto_none}
-use Rattle.words.specs.Filled.{upto_more, upto_end, Told, told_none, told_more, told_end}
+use Rattle.words.specs.Filled.{in_room, next_within, upto_none}
+use Rattle.words.specs.Filled.{upto_more, upto_end, told_none, told_more, told_end}
 use Rattle.local_sets.specs.Parts.{block_in, jump_of, fall_of}
 use Rattle.local_sets.proofs.columns_of.Goals as goal
 
@@ -30,23 +30,14 @@ loop-i-init c = (
   told_none _ _ _ _ refl,
 )
 
--- the bounds-owned-i of the last writes
-pub bounds-owned-i : goal.bounds-owned-i
-bounds-owned-i c =
-    c.loop-i-test.true
-
-pub offset_bounds-owned-i : goal.offset_bounds-owned-i
-offset_bounds-owned-i c = fits_8 (below_256 (bounds-owned-i c))
-
 pub loop-i-preserved : goal.loop-i-preserved
 loop-i-preserved c =
     let below = c.loop-i-test.true in
-    
     let size : length c.args.blocks ≡ 64 = c.well_formed.1.0.1.0.1 in
     let own = c.own_block-k.ensures
     ∙ taken c.args.count c.args.blocks c.loop-i.i _ no_block (in_room size below) in
     let fits : SFits w32
-    c.own_block-k.result.constant = record { sfits = c.struct_told-1.given.1.1.1.1.1.1.0.1 } in (
+    c.own_block-k.result.constant = search rules in (
       next_within below,
       upto_more (λ k. eqb (block_in c.args.count c.args.blocks k).ending 3) _ _ _ _ c.loop-i.invariant.1
           (ap (λ (k : Block). eqb k.ending 3) own) c.put-tests.ensures,
@@ -63,7 +54,6 @@ loop-i-preserved c =
 pub returns : goal.returns
 returns c =
     let done = c.loop-i.invariant in
-    
     let size : length c.args.blocks ≡ 64 = c.well_formed.1.0.1.0.1 in
     let end : 64 ≤ c.loop-i.i = c.loop-i-test.false in (
       record {

@@ -1,20 +1,12 @@
 -- `local_sets::columns_of` meets its contract. The loop's invariant: the blocks below i have their places. The
 -- measure is what is left of the 64.
-use mathlib.Core.Path.{◌≡◌, refl, ap, ◌∙◌}
+use mathlib.Core.Path.{◌≡◌}
 use Prim.Native.Nat.{◌-◌, ◌≤◌}
-use native.Mathlib.Omega.{arith}
 use lib.Dec.{eqb}
 use lib.IntN.{pos}
-use lib.ListN.{length, length-take, take}
-use mir.Syntax.{w32}
-use mir.Val.{SFits}
-use mir.Facts.{to_z-of_z}
-use Rattle.form.specs.declared.Block.{Block}
-use Rattle.form.specs.Conflict.{no_block}
 use Rattle.form.specs.Relation.{opposite}
-use Rattle.lower_laws.specs.Blocks.{taken, beyond}
-use Rattle.words.specs.Filled.{in_room, fits_4, fits_8, fits_next, below_256, next_within, less_left, Upto, upto_none}
-use Rattle.words.specs.Filled.{upto_more, upto_end, Told, told_none, told_more, told_end}
+use Rattle.words.specs.Filled.{Upto}
+use Rattle.words.specs.Filled.{Told}
 use Rattle.local_sets.specs.Parts.{block_in, jump_of, fall_of}
 use Rattle.local_sets.proofs.columns_of.Given as goal
 

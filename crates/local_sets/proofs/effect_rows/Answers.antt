@@ -2,14 +2,11 @@
 use mathlib.Core.Path.{refl, subst}
 use mathlib.Core.Logic.{inl}
 use mathlib.Core.List.{List}
-use Prim.Native.Nat.{◌-◌, ◌≤◌}
 use native.Mathlib.Omega.{arith}
 use Rattle.form.specs.declared.Effect.{Effect}
-use Rattle.lower_laws.specs.Effects.{Reached}
-use Rattle.words.specs.Filled.{in_room, fits_8, fits_small, fits_next, below_256, next_within, less_left, Told}
+use Rattle.words.specs.Filled.{next_within}
 use Rattle.words.specs.Filled.{told_none, told_more, told_end}
-use Rattle.local_sets.specs.declared.Tests.{Tests}
-use Rattle.local_sets.specs.Parts.{MarksOf, HitsOf, TouchedBy, DeniedBy, passed, own_effects}
+use Rattle.local_sets.specs.Parts.{HitsOf, passed}
 use Rattle.local_sets.specs.Turns.{own_effects_lem, next_effects}
 use Rattle.local_sets.proofs.effect_rows.Goals as goal
 
@@ -21,20 +18,6 @@ loop-b-init c = (
   inl refl,
   λ t effects m. (told_none _ _ _ _ refl, told_none _ _ _ _ refl, told_none _ _ _ _ refl),
 )
-
-pub bounds-owned-b : goal.bounds-owned-b
-bounds-owned-b c = in_room c.requires.0
-    c.loop-b-test.true
-
-pub hits_of-h-requires : goal.hits_of-h-requires
-hits_of-h-requires c =
-    (c.requires.1, c.within-own.ensures.room)
-
-pub bounds-touched-b : goal.bounds-touched-b
-bounds-touched-b c = c.loop-b-test.true
-
-pub offset_bounds-touched-b : goal.offset_bounds-touched-b
-offset_bounds-touched-b c = fits_8 (below_256 c.loop-b-test.true)
 
 pub loop-b-preserved : goal.loop-b-preserved
 loop-b-preserved c =

@@ -1,26 +1,21 @@
 -- `local_sets::effect_rows` meets its contract. The loop's invariant: the rows below b are right, whatever the marks
 -- are of, and `from` effects are passed. The measure is what is left of the 64.
-use mathlib.Core.Path.{refl, subst}
-use mathlib.Core.Logic.{inl}
 use mathlib.Core.List.{List}
 use Prim.Native.Nat.{◌-◌, ◌≤◌}
-use native.Mathlib.Omega.{arith}
 use Rattle.form.specs.declared.Effect.{Effect}
 use Rattle.lower_laws.specs.Effects.{Reached}
-use Rattle.words.specs.Filled.{in_room, fits_8, fits_small, fits_next, below_256, next_within, less_left, Told}
-use Rattle.words.specs.Filled.{told_none, told_more, told_end}
+use Rattle.words.specs.Filled.{Told}
 use Rattle.local_sets.specs.declared.Tests.{Tests}
-use Rattle.local_sets.specs.Parts.{MarksOf, HitsOf, TouchedBy, DeniedBy, passed, own_effects}
-use Rattle.local_sets.specs.Turns.{own_effects_lem, next_effects}
+use Rattle.local_sets.specs.Parts.{MarksOf, TouchedBy, DeniedBy, passed, own_effects}
 use Rattle.local_sets.proofs.effect_rows.Given as goal
 
 abbrev pub invariant-loop-b : goal.invariant-loop-b
 invariant-loop-b l =
     (l.b ≤ 64) × (l.from ≤ 256) × Reached 256 (passed l.owned l.b) l.from
     × ((t : Tests) (effects : List Effect) → MarksOf 256 t effects l.on l.jump l.fall
-    → Told 0 (λ l.b x. TouchedBy t (own_effects l.owned effects l.b) x) 64 l.b l.touched
-    × Told 0 (λ l.b x. DeniedBy t t.jump (own_effects l.owned effects l.b) x) 64 l.b l.by_jump
-    × Told 0 (λ l.b x. DeniedBy t t.fall (own_effects l.owned effects l.b) x) 64 l.b l.by_fall)
+    → Told 0 (λ b x. TouchedBy t (own_effects l.owned effects b) x) 64 l.b l.touched
+    × Told 0 (λ b x. DeniedBy t t.jump (own_effects l.owned effects b) x) 64 l.b l.by_jump
+    × Told 0 (λ b x. DeniedBy t t.fall (own_effects l.owned effects b) x) 64 l.b l.by_fall)
 
 abbrev pub decreases-loop-b : goal.decreases-loop-b
 decreases-loop-b l = 64 - l.b

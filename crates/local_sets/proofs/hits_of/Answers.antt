@@ -1,17 +1,15 @@
 -- `local_sets::hits_of` meets its contract.
 use mathlib.Core.Path.{◌≡◌}
 use mathlib.Core.List.{List}
-use Prim.Native.Nat.{ℕ, ◌+◌, ◌-◌, ◌≤◌, ◌<◌}
+use Prim.Native.Nat.{ℕ, ◌+◌, ◌≤◌, ◌<◌}
 use native.Mathlib.Omega.{arith}
 use lib.ListN.{get_or, take, drop}
 use Rattle.form.specs.declared.Effect.{Effect}
 use Rattle.form.specs.Form.{zero_effect}
 use Rattle.lower_laws.specs.Effects.{take_next}
 use Rattle.words.specs.Filled.{in_room}
-use Rattle.local_sets.specs.Parts.{HitsFrom}
 use Rattle.local_sets.specs.Turns.{hits_none, touched_more, denied_more}
 use Rattle.local_sets.proofs.hits_of.Goals as goal
-use Rattle.local_sets.proofs.hits_of.Goals.{After-either-touched}
 
 pub loop-k-init : goal.loop-k-init
 loop-k-init c = (omega arith, λ t effects m. hits_none t)
@@ -31,7 +29,7 @@ loop-k-preserved c =
           c.loop-k-test.true in
           rw (take_next effects c.args.from c.loop-k.k zero_effect (in_room m.all in_all))
           (record {
-            (goal.at.loop-k-preserved c).After-either-touched = touched_more t a _ (m.ons.at i in_all) done _ _ was.touched c.either-touched.ensures;
+            touched = touched_more t a _ (m.ons.at i in_all) done _ _ was.touched c.either-touched.ensures;
             jumps = denied_more t a _ (m.ons.at i in_all) done t.jump _ _ _ was.jumps (m.jumps.at i in_all)
                 c.renewed-by_jump.ensures;
             falls = denied_more t a _ (m.ons.at i in_all) done t.fall _ _ _ was.falls (m.falls.at i in_all)

@@ -1,7 +1,6 @@
 -- `local_sets::marks_of` meets its contract.
 use mathlib.Core.Path.{◌≡◌, refl}
-use mathlib.Core.List.{List}
-use Prim.Native.Nat.{ℕ, ◌-◌, ◌≤◌}
+use borrow.Author.Rules.{rules}
 use native.Mathlib.Omega.{arith}
 use lib.ListN.{get_or}
 use mir.Syntax.{w32}
@@ -9,50 +8,27 @@ use mir.Val.{SFits}
 use mir.Facts.{to_z-of_z}
 use Rattle.form.specs.declared.Effect.{Effect}
 use Rattle.form.specs.Form.{zero_effect}
-use Rattle.words.specs.Filled.{in_room, fits_8, fits_byte, fits_next, next_within, less_left, told_none, told_more}
+use Rattle.words.specs.Filled.{next_within, told_none, told_more}
 use Rattle.local_sets.specs.declared.Tests.{Tests}
-use Rattle.local_sets.specs.Parts.{OnVariable, MarksOf}
 use Rattle.local_sets.specs.Turns.{mark_at}
 use Rattle.local_sets.proofs.marks_of.Goals as goal
-use Rattle.local_sets.proofs.marks_of.Goals.{At-loop-k}
 
 pub loop-k-init : goal.loop-k-init
-loop-k-init c =
-    (
-      omega arith,
-      λ tests variable g. record {
-        all = c.well_formed.0.1.0.1;
-        ons = told_none _ _ _ _ refl;
-        jumps = told_none _ _ _ _ refl;
-        falls = told_none _ _ _ _ refl;
-      },
-    )
-
-pub overflow_cast-v : goal.overflow_cast-v
-overflow_cast-v c = fits_byte c.struct_told-1.given.0.1
-
-pub offset_bounds-groups-v : goal.offset_bounds-groups-v
-offset_bounds-groups-v c = fits_8 c.struct_told-1.given.0.1
-
-pub bounds-groups-v : goal.bounds-groups-v
-bounds-groups-v c = in_room
-    c.requires.0
-    c.struct_told-1.given.0.1
-
-pub opposed-requires : goal.opposed-requires
-opposed-requires c =
-    let p = c.requires in
-    (p.1.0, p.1.1.1)
-
-pub opposed-requires-in-loop-k : goal.opposed-requires-in-loop-k
-opposed-requires-in-loop-k c =
-    c.requires.1.1
+loop-k-init c = (
+  omega arith,
+  λ tests variable g. record {
+    all = c.well_formed.0.1.0.1;
+    ons = told_none _ _ _ _ refl;
+    jumps = told_none _ _ _ _ refl;
+    falls = told_none _ _ _ _ refl;
+  },
+)
 
 pub loop-k-preserved : goal.loop-k-preserved
 loop-k-preserved c =
     let below = c.loop-k-test.true in
     let a : Effect = get_or c.args.effects c.loop-k.k zero_effect in
-    let value : SFits w32 a.constant = record { sfits = c.struct_told-1.given.1.1.0.1 } in (
+    let value : SFits w32 a.constant = search rules in (
       next_within below,
       λ tests variable g.
           let was = c.loop-k.invariant.1 tests variable g in
@@ -64,16 +40,16 @@ loop-k-preserved c =
             fall = c.args.fall.now;
             constant = c.args.constant.now;
           } in
-          let alike = g.at a.variable c.struct_told-1.given.0.1 in
+          let alike = g.at a.variable (omega arith) in
           record {
             all = was.all;
             ons = told_more _ _ _ _ _ _ below was.ons alike;
             jumps = told_more _ _ _ _ _ _ below was.jumps
                 (mark_at t t.jump a _ _ _ alike c.only-set.ensures
-                (rw (to_z-of_z value) (goal.at.loop-k-preserved c).At-loop-k c.opposed.ensures));
+                (rw (to_z-of_z value) at c.opposed.ensures));
             falls = told_more _ _ _ _ _ _ below was.falls
                 (mark_at t t.fall a _ _ _ alike c.only-set.ensures
-                (rw (to_z-of_z value) (goal.at.loop-k-preserved c).At-loop-k c.opposed-in-loop-k.ensures));
+                (rw (to_z-of_z value) at c.opposed-in-loop-k.ensures));
           },
     )
 

@@ -1,7 +1,8 @@
 -- `local_sets::opposed` meets its contract.
 use mathlib.Core.Path.{◌∙◌}
 use mathlib.Core.Bool.{not}
-use Prim.Native.Nat.{◌^◌, ◌<◌}
+use Prim.Native.Nat.{◌<◌}
+use borrow.Author.Rules.{rules}
 use native.Mathlib.Omega.{arith}
 use lib.IntN.{pos}
 use lib.ListN.{get_or}
@@ -9,43 +10,25 @@ use mir.Syntax.{w32}
 use mir.Val.{to_z, of_z, SFits}
 use mir.Facts.{to_z-of_z}
 use Rattle.lower_laws.specs.PairTest.{shares, test_is}
-use Rattle.words.specs.Sorted.{Sifted, sifted_none, sifted_more, sifted_end}
+use Rattle.words.specs.Sorted.{sifted_none, sifted_more, sifted_end}
 use Rattle.local_sets.proofs.opposed.Goals as goal
-use Rattle.local_sets.proofs.opposed.Goals.{At-loop-left}
 
 pub loop-left-init : goal.loop-left-init
 loop-left-init c = (c.ranges.set.fits, sifted_none _ _)
-
-pub bounds-relations-j : goal.bounds-relations-j
-bounds-relations-j c = omega
-    (arith, c.lowest-j.ensures.0, c.requires)
-
-pub offset_bounds-constants-j : goal.offset_bounds-constants-j
-offset_bounds-constants-j c = omega (arith, c.lowest-j.ensures.0)
-
-pub bounds-constants-j : goal.bounds-constants-j
-bounds-constants-j c = omega
-    (arith, c.lowest-j.ensures.0, c.requires)
-
-pub put-r-requires : goal.put-r-requires
-put-r-requires c = c.lowest-j.ensures.0
-
-pub loop-left-smaller : goal.loop-left-smaller
-loop-left-smaller c = c.rest-left.ensures.1 (omega (arith, c.loop-left-test.true))
 
 pub loop-left-preserved : goal.loop-left-preserved
 loop-left-preserved c =
     let a = c.args in
     let some : 0 < c.loop-left.left = omega (arith, c.loop-left-test.true) in
     let fits : SFits w32 (get_or a.constants.now c.lowest-j.result
-    (pos 0)) = record { sfits = c.conflicting-arg-1.given } in (
+    (pos 0)) = search rules in (
       omega (arith, c.rest-left.ensures.1 some, c.loop-left.invariant.0),
       sifted_more (λ k. not
           (shares a.relation (to_z w32 (of_z w32 a.constant)) (get_or a.relations.now k 0)
           (get_or a.constants.now k (pos 0)))) a.set
           c.loop-left.left _ _ _ c.lowest-j.result _ c.loop-left.invariant.1 c.loop-left.invariant.0 some
           c.lowest-j.ensures.1
-          ((rw (to_z-of_z fits) (goal.at.loop-left-preserved c).At-loop-left c.conflicting-against.ensures)
+          ((rw (to_z-of_z fits) at c.conflicting-against.ensures)
           ∙ test_is 0 a.relation (to_z w32 (of_z w32 a.constant))
           (get_or a.relations.now c.lowest-j.result 0)
           (get_or a.constants.now c.lowest-j.result (pos 0)))

@@ -1,30 +1,25 @@
 -- `local_sets::opposed_rows` meets its contract.
 use mathlib.Core.Path.{refl}
-use Prim.Native.Nat.{◌-◌, ◌≤◌}
+use borrow.Author.Rules.{rules}
 use native.Mathlib.Omega.{arith}
 use lib.IntN.{pos}
 use lib.ListN.{get_or}
 use mir.Syntax.{w32}
 use mir.Val.{SFits}
 use mir.Facts.{to_z-of_z}
-use Rattle.words.specs.Filled.{Told, told_none, told_more, told_end}
-use Rattle.local_sets.specs.Parts.{OpposedAt}
+use Rattle.words.specs.Filled.{told_none, told_more, told_end}
 use Rattle.local_sets.proofs.opposed_rows.Goals as goal
-use Rattle.local_sets.proofs.opposed_rows.Goals.{At-loop-b}
 
 pub loop-b-init : goal.loop-b-init
 loop-b-init c = (omega arith, told_none _ _ _ _ refl)
-
-pub opposed-requires : goal.opposed-requires
-opposed-requires c = c.requires.1.1
 
 pub loop-b-preserved : goal.loop-b-preserved
 loop-b-preserved c =
     let a = c.args in
     let value : SFits w32 (get_or a.constant.now c.loop-b.b
-    (pos 0)) = record { sfits = c.value-1.given } in (
+    (pos 0)) = search rules in (
       omega arith,
-      told_more _ _ _ _ _ _ (omega arith) c.loop-b.invariant.1 (rw (to_z-of_z value) (goal.at.loop-b-preserved c).At-loop-b c.opposed.ensures),
+      told_more _ _ _ _ _ _ (omega arith) c.loop-b.invariant.1 (rw (to_z-of_z value) at c.opposed.ensures),
     )
 
 pub returns : goal.returns

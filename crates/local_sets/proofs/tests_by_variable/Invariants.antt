@@ -1,12 +1,9 @@
 -- `local_sets::tests_by_variable` meets its contract. The loop's invariant: the tests below i are sorted. The measure
 -- is what is left of the 64.
-use mathlib.Core.Path.{refl}
 use Prim.Native.Nat.{◌-◌, ◌≤◌}
-use native.Mathlib.Omega.{arith}
 use lib.ListN.{get_or}
 use Rattle.laws.specs.Terms.{bit}
-use Rattle.words.specs.Sorted.{Sorted, sorted_none, sorted_more}
-use Rattle.local_sets.specs.Sorting.{on_variable_end}
+use Rattle.words.specs.Sorted.{Sorted}
 use Rattle.local_sets.proofs.tests_by_variable.Given as goal
 
 abbrev pub invariant-loop-i : goal.invariant-loop-i
