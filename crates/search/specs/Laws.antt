@@ -1,7 +1,9 @@
 -- The laws of a turn of the full walk: the words of the code are the forward machine's state, and the two ways in order
 -- are the theory's turn. Rests on Terms and on theory's Walk, Forward and Edges.
-use Rattle.std.specs.Prelude.{◌≡◌, refl, Bool, true, false, not, cond, ◌||◌, ◌&&◌, List, [], ◌∷◌, ◌++◌, ℕ, suc, ◌+◌, ◌-◌, ◌*◌, ◌^◌, ◌<◌, ◌≤◌, eqb, ltb}
-use Rattle.std.proofs.Common.{sym, ap, ap₂, subst, ◌∙◌, inl, inr, add-one, arith, eq-eqb, ne_eqb, ltb-true, ltb-false, lt-ltb}
+use Rattle.std.specs.Prelude.{◌≡◌, refl, Bool, true, false, not, cond, ◌||◌, ◌&&◌, List, [], ◌∷◌, ◌++◌}
+use Rattle.std.specs.Prelude.{ℕ, suc, ◌+◌, ◌-◌, ◌*◌, ◌^◌, ◌<◌, ◌≤◌, eqb, ltb}
+use Rattle.std.proofs.Common.{sym, ap, ap₂, subst, ◌∙◌, inl, inr, add-one, arith}
+use Rattle.std.proofs.Common.{eq-eqb, ne_eqb, ltb-true, ltb-false, lt-ltb}
 use Rattle.std.proofs.Math.Bool.{and-false, or-false}
 use Rattle.std.proofs.Math.Option.{Option, none, some}
 use Rattle.std.specs.Int.Bits.{bit_or}
@@ -209,7 +211,8 @@ module _ (choice : Choice) (body : Body) (cost : ℕ → ℕ → ℕ) (budget b 
       (advance cost) counted b s c a h
       ∙ λ i. and_then (counted a (b, c))
       (λ d. (ap (λ os. branches os d) (p.ways b h)
-      ∙ two_ways (ltb (target_at plan b 1) 64) (ltb (target_at plan b 2) 64) (target_at plan b 1) (target_at plan b 2) d) i)
+      ∙ two_ways (ltb (target_at plan b 1) 64) (ltb (target_at plan b 2) 64) (target_at plan b 1)
+      (target_at plan b 2) d) i)
 
   -- the tests: the budget is passed, the way exists, its edge is banned
   way_is : (way target : ℕ) (first next : Found) (over is shut : Bool) → ltb budget first.0 ≡ over

@@ -1,6 +1,7 @@
 -- The terms of the full walk's contracts: what its words say in the theory's terms, and what each turn of the recursion
 -- does. Definitions only. Rests on theory's Plan, Walk and Edges.
-use Rattle.std.specs.Prelude.{◌≡◌, Bool, true, false, not, cond, ◌||◌, ◌&&◌, List, [], ◌∷◌, ℕ, ◌+◌, ◌^◌, ◌<◌, ◌≤◌, eqb, ltb, get_or}
+use Rattle.std.specs.Prelude.{◌≡◌, Bool, true, false, not, cond, ◌||◌, ◌&&◌, List, [], ◌∷◌}
+use Rattle.std.specs.Prelude.{ℕ, ◌+◌, ◌^◌, ◌<◌, ◌≤◌, eqb, ltb, get_or}
 use Rattle.std.proofs.Math.Option.{Option, none, some}
 use Rattle.laws.specs.Terms.{Choice, bit, preferred}
 use Rattle.form.specs.declared.Body.{Body}
@@ -43,8 +44,8 @@ Found = ℕ × List ℕ
 -- eight words from a place on
 abbrev pub eight_from : ℕ → List ℕ → List ℕ
 eight_from at words =
-    get_or words at 0 ∷ get_or words (at + 1) 0 ∷ get_or words (at + 2) 0 ∷ get_or words (at + 3) 0 ∷ get_or words (at + 4) 0
-    ∷ get_or words (at + 5) 0 ∷ get_or words (at + 6) 0 ∷ get_or words (at + 7) 0 ∷ []
+    get_or words at 0 ∷ get_or words (at + 1) 0 ∷ get_or words (at + 2) 0 ∷ get_or words (at + 3) 0
+    ∷ get_or words (at + 4) 0 ∷ get_or words (at + 5) 0 ∷ get_or words (at + 6) 0 ∷ get_or words (at + 7) 0 ∷ []
 
 -- all in nine words
 abbrev pub found_in : List ℕ → Found
