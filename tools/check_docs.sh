@@ -4,7 +4,7 @@
 # that say so of themselves, rest on one another alone and prove nothing. README.md has every crate of crates.txt. The last line is 'N passed, M failed'.
 # Names and how they are told apart:
 #   crate::call, crate::module::call, crate::Type    in crates/CRATE/src
-#   crate.File, crate.File.name                      in crates/CRATE/specs
+#   crate.File, crate.File.name                      in crates/CRATE/specs, or else in crates/CRATE/proofs
 #   crate/label                                      crates/CRATE/must-fail/LABEL.edit
 #   a path that begins with a folder of the tree     a file or folder
 #   some_name                                        a word of the code; a must-fail edit is not named without its crate
@@ -41,9 +41,9 @@ has_name() {
             text = substr(text, at + length(name)) } }
         END { exit !found }' "$@"
 }
-# The file of specs/ that a dotted name leads to, and what is left of the name: spec_file CRATE DOTTED. A file may stand in a folder of specs/, named or not.
-spec_file() {
-    local at=crates/$1/specs left=$2 part inner
+# The file of a folder that a dotted name leads to, and what is left of the name: file_in FOLDER DOTTED. A file may stand in a folder of it, named or not.
+file_in() {
+    local at=$1 left=$2 part inner
     while [ -n "$left" ]; do
         part=${left%%.*}
         if [ "$part" = "$left" ]; then left=; else left=${left#*.}; fi
@@ -55,6 +55,13 @@ spec_file() {
         echo "$inner $left"
         return
     done
+}
+# The same in specs/ of a crate, or where there is none in its proofs/: spec_file CRATE DOTTED.
+spec_file() {
+    local found
+    found=$(file_in "crates/$1/specs" "$2")
+    case $found in " "*) found=$(file_in "crates/$1/proofs" "$2") ;; esac
+    echo "$found"
 }
 declares() { grep -qE "\b(fn|struct|enum|const) $2\b" crates/"$1"/src/*.rt; }
 words=$({ ls compare/src/bin && cat crates/*/src/*.rt include/* compare/*.c compare/src/*.rs; } | grep -oE '[a-z][a-z0-9]*(_[a-z0-9]+)+' | sort -u)
@@ -83,7 +90,7 @@ named() {
         if ! is_crate "$crate"; then
             bad "$doc: $name: there is no crate $crate"
         elif [ ! -f "$file" ]; then
-            bad "$doc: $name: there is no such file in crates/$crate/specs"
+            bad "$doc: $name: there is no such file in crates/$crate/specs or proofs"
         elif [ -n "$rest" ]; then
             check "$doc: $name is not in $file" has_name "$rest" "$file"
         else

@@ -1,3 +1,2 @@
--- The marked cases of document 01: the table with its claim (Table, trusted) and the proof (Proof).
+-- The marked cases of document 01: the table with its claim (Table, trusted). proofs/Marked has the proof.
 pub mod Table
-pub mod Proof

@@ -1,16 +1,14 @@
--- Routes, tails, rows and runs. Trusted definitions, in reading order: Route, Row, Run; Example shows them on document
--- 01's body.
+-- Routes, tails, rows and runs. Trusted definitions, in reading order: Route, Row, Run. The theorems on runs, and
+-- document 01's body as an example, are in proofs/: what rests on Run is not in specs/, so that an edit of Run is read.
 pub mod Route
 pub mod Row
 pub mod Run
-pub mod Example
 -- The definitions read as document 01 words them.
 pub mod Readings
 -- The theorems.
 pub mod machines
 pub mod pairs
 pub mod answers
-pub mod runs
 -- As the upper layer cites them.
 pub mod Main
 -- What the walks need of a body, as words; how large weights are.
@@ -37,5 +35,3 @@ pub use Rattle.theory.specs.answers.Words
 pub use Rattle.theory.specs.answers.WalkWords
 pub use Rattle.theory.specs.answers.RowSets
 pub use Rattle.theory.specs.answers.SweepWords
-pub use Rattle.theory.specs.runs.RunWide
-pub use Rattle.theory.specs.runs.Bound

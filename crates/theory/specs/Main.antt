@@ -1,25 +1,20 @@
 -- The theorems as the upper layer cites them, for a sound body with its own conflict list, any costs and any
--- preference: a turn of the sweep, row 0, the full walk, and the bound on runs. Both ways are held to the same
--- definitions, so they agree. Rests on all that is above.
-use Rattle.std.specs.Prelude.{◌≡◌, refl, Bool, List, [], ◌∷◌, ℕ, ◌≤◌, ◌<◌, length}
-use Rattle.std.proofs.Common.{sym, ap, subst, ◌∙◌, arith}
-use Rattle.std.proofs.Math.Option.{Option, none, some}
-use Rattle.laws.specs.Terms.{heavier}
+-- preference: a turn of the sweep, row 0, and the full walk. Both ways are held to the same definitions, so they agree.
+-- The bound on runs is in proofs/runs. Rests on all that is above.
+use Rattle.std.specs.Prelude.{◌≡◌, Bool, List, ℕ, ◌<◌}
+use Rattle.std.proofs.Math.Option.{none}
 use Rattle.laws.specs.Orders.{Preference}
 use Rattle.form.specs.declared.Body.{Body}
 use Rattle.form.specs.Conflict.{Sound, conflicts}
-use Rattle.theory.specs.Route.{Path, tails, best_route, walked, bound_of}
+use Rattle.theory.specs.Route.{tails, best_route, walked}
 use Rattle.theory.specs.Row.{Key, found}
-use Rattle.theory.specs.Run.{Run, run_cost}
-use Rattle.theory.specs.machines.Machine.{Val}
 use Rattle.theory.specs.machines.Walk.{within, walk, tally}
 use Rattle.theory.specs.pairs.Edges.{no_edges}
 use Rattle.theory.specs.pairs.Forward.{on_machine}
 use Rattle.theory.specs.pairs.Listing.{listing}
 use Rattle.theory.specs.answers.Ways.{tails_by, best_by, walked_by}
 use Rattle.theory.specs.pairs.Pairwise.{pairwise}
-use Rattle.theory.specs.runs.Bound.{run_bound}
-use Rattle.theory.specs.answers.SweepWords.{Words, words_of, words_found, row_words, row_zero_words, built_words}
+use Rattle.theory.specs.answers.SweepWords.{Words, words_found, row_words, row_zero_words, built_words}
 use Rattle.theory.specs.answers.SweepWords.{sweep_words}
 use Rattle.theory.specs.answers.WalkWords.{advance, finish, nothing, walk_words}
 
@@ -44,18 +39,3 @@ module _ (body : Body) (g : Sound body) (cost : ℕ → ℕ → ℕ) (prefers : 
   walk_answer =
       walk_words body g.onward (pairwise body (conflicts body) g.onward (listing body g.onward))
       cost prefers ch
-
--- a run of no more iterations than the count costs at most the bound of the count and the weight in row 0
-pub run_most : (body : Body) → Sound body → (cost : ℕ → ℕ → ℕ) → ((b way : ℕ) → cost b 0 ≤ cost b way) → (v : Words)
-    → row_words body (conflicts body) cost heavier 0 ≡ (no_edges, v) ∷ []
-    → (count : ℕ) {l : List (Path × ℕ)} → Run body l → length l ≤ count → run_cost body cost l ≤ bound_of count v.0
-run_most body g cost least v h count {l} r n =
-    by (best_route body cost heavier) refl (sym (row_zero_words body (conflicts body) cost heavier) ∙ h)
-  where
-    by : (o : Option Val) → best_route body cost heavier ≡ o → found no_edges (words_found body o) ≡ (no_edges, v) ∷ []
-        → run_cost body cost l ≤ bound_of count v.0
-    by none e f = let z : ◌≡◌ {A = ℕ} 0 1 = cc in absurd (omega arith)
-    by (some u) e f =
-        let d : ◌≡◌ {A = Key × Words} (no_edges, words_of body u) (no_edges, v) = cc in
-        subst (λ (x : Words). run_cost body cost l ≤ bound_of count x.0) (ap (λ (e : Key × Words). e.1) d)
-        (run_bound body g cost least u e count r n)

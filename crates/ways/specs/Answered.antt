@@ -16,7 +16,7 @@ use Rattle.roundtrip.specs.Refusals.{reader_gives}
 use Rattle.roundtrip.specs.Sound.{sound}
 use Rattle.theory.specs.Route.{Routes, Path, Side, side_of, route_on, both_of, routes_on, step_cost, bound_of, route_bytes, way_of}
 use Rattle.theory.specs.Run.{Run, run_cost, whole}
-use Rattle.theory.specs.Bound.{run_bound, run_least}
+use Rattle.theory.proofs.runs.Bound.{run_bound, run_least}
 use Rattle.plan.specs.Owed.{CountOf, Owed, Values, weight_in, total_in, routed_values, bytes_needed, routed_bytes}
 use Rattle.plan.specs.Owed.{route_in}
 use Rattle.plan.specs.Owed.Owed.{no_form, no_count, counted}

@@ -33,7 +33,7 @@ use Rattle.theory.specs.Run.Run.{rests, repeats, breaks}
 use Rattle.theory.specs.machines.Passes.{leads_path}
 use Rattle.theory.specs.answers.Ways.{tails_by, best_by}
 use Rattle.theory.specs.answers.Best.{best_most}
-use Rattle.theory.specs.runs.RunWide.{stays, untouched, goes_on_lem}
+use Rattle.theory.proofs.runs.RunWide.{stays, untouched, goes_on_lem}
 use Rattle.lower_laws.specs.Listed.{denies_test, opposes_out}
 use Rattle.theory.specs.pairs.Steps.{Leads, wipes, against, hit, hit_nil, hit_cons, conflict_nil, conflict_cons}
 

@@ -18,7 +18,7 @@ use Rattle.theory.specs.Row.{longest, kept, highest, crowded}
 use Rattle.theory.specs.Run.{State, Does, Iteration}
 use Rattle.theory.specs.Run.Do.{done, does}
 use Rattle.theory.specs.Run.Iteration.{ends, goes}
-use Rattle.theory.specs.runs.RunWide.{go_left, test_left}
+use Rattle.theory.proofs.runs.RunWide.{go_left, test_left}
 
 -- cost, number of effects, jump
 abbrev goes_to : ℕ → ℕ → ℕ → Block
