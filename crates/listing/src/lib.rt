@@ -1,6 +1,7 @@
 // The conflict list of document 01, for any form: read off what the crate path_sets finds of a body, its bytes laid out
 // by the crate list_bytes. The meaning is in specs/Answer.antt and in form's Conflict.
 #![tactic(auto)]
+
 ghost use Rattle.std.specs.Prelude.{◌≡◌, length};
 ghost use Rattle.form.specs.Conflict.{Sound, conflict_bytes};
 ghost use Rattle.listing.specs.Answer.{listed_in, held_after, Answered};

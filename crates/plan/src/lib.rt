@@ -1,6 +1,7 @@
 // What both ways start from. The plan of a body: what the walks need of each block, 16 words a block (theory's Plan),
 // from the body's costs and the sets of its conflicts.
 #![tactic(auto)]
+
 ghost use Rattle.std.specs.Prelude.{◌≡◌, ◌+◌, ◌*◌, ◌≤◌, ◌<◌, eqb, length};
 ghost use Rattle.lent.specs.Adding.{Adds};
 ghost use Rattle.form.specs.Conflict.{Sound};
