@@ -37,6 +37,7 @@ in_length l i (suc n) = ap suc (in_length l (suc i) n)
 
 pub in_mem : (l : List Entry) (i n k : ℕ) → k < n → Mem (tuple_of (get_or l (i + k) no_entry)) (entries_in l i n)
 unfolding entries_in
+in_mem l i zero k h = elim h [ ]
 in_mem l i (suc n) zero h = inl (ap (λ j. tuple_of (get_or l j no_entry)) (add-zero i))
 in_mem l i (suc n) (suc k) h = inr (subst (λ (j : ℕ). Mem (tuple_of (get_or l j no_entry)) (entries_in l (suc i) n))
     (suc-add i k ∙ sym (add-suc i k)) (in_mem l (suc i) n k (omega arith)))
@@ -98,6 +99,7 @@ module _ (row : List ℕ) (table : List Entry) (from : ℕ) where
   pub fetched_at : (n : ℕ) → 8 * n ≤ length row → (j : ℕ) → j < n → entry_at (fetched row table from n) j ≡ tuple_of
       (get_or table (from + j) no_entry)
   unfolding fetched
+  fetched_at zero room j h = elim h [ ]
   fetched_at (suc k) room j h = split (eqb j k)
       (λ q. let e = eqb-true j k q in
       ap (entry_at (fetched row table from (suc k))) e
@@ -138,6 +140,7 @@ structs_of row = map struct_of (entries_from row 0 64)
 struct_in : (row : List ℕ) (i n k : ℕ) → k < n → get_or (map struct_of (entries_from row i n)) k no_entry ≡ struct_at row
     (i + k)
 unfolding entries_from
+struct_in row i zero k h = elim h [ ]
 struct_in row i (suc n) zero h = ap (struct_at row) (sym (add-zero i))
 struct_in row i (suc n) (suc k) h = struct_in row (suc i) n k (omega arith) ∙ ap (struct_at row)
     (suc-add i k ∙ sym (add-suc i k))

@@ -2,6 +2,7 @@
 // of, the row itself, what follows it, and the answer from row 0. Nothing here has a slice of structs, and all is
 // covered; crate sweep puts these steps together over the lent table.
 #![tactic(auto)]
+
 ghost use Rattle.std.specs.Prelude.{◌≡◌, ℕ, max, min, ◌-◌, ◌*◌, ◌^◌, ◌<◌, ◌≤◌, length, get_or};
 ghost use Rattle.laws.specs.Terms.{Choice};
 ghost use Rattle.theory.specs.Plan.{cost_limit};

@@ -1,6 +1,7 @@
 // The full walk, for any bytes: from the plan, by the search over its words (crate search), to the answer. What is owed
 // is in specs/Answer.antt.
 #![tactic(auto)]
+
 ghost use Rattle.std.specs.Prelude.{◌≡◌, ℕ, ◌<◌};
 ghost use Rattle.form.specs.declared.Body.{Body};
 ghost use Rattle.form.specs.Conflict.{Sound};

@@ -1,0 +1,46 @@
+-- `sweep_steps::answer` meets its contract.
+use mathlib.Core.Path.{◌≡◌, sym, ap, subst, ◌∙◌}
+use Prim.Native.Nat.{ℕ, ◌<◌, ◌≤◌}
+use native.Mathlib.Omega.{arith}
+use Rattle.laws.specs.Terms.{Choice, heaviest, lightest, chosen}
+use Rattle.theory.specs.Plan.{cost_limit}
+use Rattle.plan.specs.Accepted.{product}
+use Rattle.entries.specs.declared.Entry.{Entry}
+use Rattle.entries.specs.Structs.{tuple_of}
+use Rattle.sweep_steps.specs.Ends.{entry_in, answer_of, answer_none, answer_some}
+use Rattle.sweep_steps.proofs.answer.Goals as goal
+use Rattle.sweep_steps.proofs.answer.Goals.{After-entry_at-first}
+
+positive : (n : ℕ) → (n ≡ 0 → ⊥) → 0 < n
+positive n d = omega arith
+
+pub returns-then-found-eq0 : goal.returns-then-found-eq0
+returns-then-found-eq0 c =
+    let a = c.args in
+    answer_none a.count a.iterations a.kept a.found (entry_in a.row.now) a.route.now
+    c.if-found-eq0.true c.refuse.ensures
+
+-- the weight of the choice in the entry that was read keeps to the limit
+few : (choice : Choice) (c : After-entry_at-first)
+    → (chosen choice (tuple_of c.entry_at-first.result).1).0 ≤ cost_limit
+few choice c =
+    subst (λ (e : Entry). (chosen choice (tuple_of e).1).0 ≤ cost_limit) (sym c.entry_at-first.ensures)
+    (c.requires.1 (positive c.args.found c.if-found-eq0.false) choice)
+
+pub overflow_mul-result : goal.overflow_mul-result
+overflow_mul-result c =
+    product c.args.iterations c.entry_at-first.result.heaviest.weight c.requires.0.1.1
+    (few heaviest (goal.at.overflow_mul-result c).After-entry_at-first)
+
+pub overflow_mul-result-2 : goal.overflow_mul-result-2
+overflow_mul-result-2 c =
+    product c.args.iterations c.entry_at-first.result.lightest.weight c.requires.0.1.1
+    (few lightest (goal.at.overflow_mul-result-2 c).After-entry_at-first)
+
+pub returns : goal.returns
+returns c =
+    let a = c.args in
+    answer_some a.count a.iterations a.kept a.found c.entry_at-first.result a.route.now
+    c.if-found-eq0.false c.write_routes.ensures
+    ∙ ap (λ (e : Entry). answer_of a.count a.iterations a.kept a.found e a.route.now)
+    c.entry_at-first.ensures
