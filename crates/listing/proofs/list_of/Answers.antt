@@ -24,10 +24,9 @@ found-by c =
     (c.find-f.ensures c.args.body c.requires c.local_of-local.ensures)
 
 -- its number is that of the list's entries
-numbered : (c : After-found_number-bytes)
+numbered : (c : After-found_number-bytes) → FoundBy c.args.body c.find-f.result
     → c.found_number-bytes.result ≡ length (conflicts c.args.body)
-numbered c =
-    let f = found-by c.before in
+numbered c f =
     c.found_number-bytes.ensures.0
     ∙ number_is c.args.body c.requires.few _ _ _ f.variables f.jumped f.fallen
 
@@ -42,7 +41,7 @@ pub found_number-bytes-requires : goal.found_number-bytes-requires
 found_number-bytes-requires c = found_rows _ _ (found-by c)
 
 pub returns-then-out-bytes : goal.returns-then-out-bytes
-returns-then-out-bytes c = (too_few _ _ _ (numbered (goal.at.returns-then-out-bytes c).After-found_number-bytes) c.if-out-bytes.true, refl)
+returns-then-out-bytes c = (too_few _ _ _ (numbered (goal.at.returns-then-out-bytes c).After-found_number-bytes (found-by (goal.at.returns-then-out-bytes c).After-find-f)) c.if-out-bytes.true, refl)
 
 pub found_entries-end-requires : goal.found_entries-end-requires
 found_entries-end-requires c =
@@ -51,7 +50,7 @@ found_entries-end-requires c =
       omega (
         arith,
         ap length (same_bytes (goal.at.found_entries-end-requires c).After-find-f),
-        has_room _ _ _ (numbered (goal.at.found_entries-end-requires c).After-found_number-bytes) c.if-out-bytes.false,
+        has_room _ _ _ (numbered (goal.at.found_entries-end-requires c).After-found_number-bytes (found-by (goal.at.found_entries-end-requires c).After-find-f)) c.if-out-bytes.false,
       ),
     )
 
@@ -59,7 +58,7 @@ pub returns : goal.returns
 returns c =
     let same = same_bytes (goal.at.returns c).After-find-f in
     let room = c.if-out-bytes.false in (
-      enough _ _ _ (numbered (goal.at.returns c).After-found_number-bytes) _ room
+      enough _ _ _ (numbered (goal.at.returns c).After-found_number-bytes (found-by (goal.at.returns c).After-find-f)) _ room
           (c.found_entries-end.ensures.end ∙ ap (λ (l : List ℕ). 0 + length l) same),
-      from_start (told same c.found_entries-end.ensures) (has_room _ _ _ (numbered (goal.at.returns c).After-found_number-bytes) room),
+      from_start (told same c.found_entries-end.ensures) (has_room _ _ _ (numbered (goal.at.returns c).After-found_number-bytes (found-by (goal.at.returns c).After-find-f)) room),
     )

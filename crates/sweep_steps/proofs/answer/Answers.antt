@@ -25,16 +25,16 @@ few : (choice : Choice) (c : After-entry_at-first)
     → (chosen choice (tuple_of c.entry_at-first.result).1).0 ≤ cost_limit
 few choice c =
     subst (λ (e : Entry). (chosen choice (tuple_of e).1).0 ≤ cost_limit) (sym c.entry_at-first.ensures)
-    (c.requires.1 (positive c.args.found c.if-found-eq0.false) choice)
+    (c.requires.row_bound (positive c.args.found c.if-found-eq0.false) choice)
 
 pub overflow_mul-result : goal.overflow_mul-result
 overflow_mul-result c =
-    product c.args.iterations c.entry_at-first.result.heaviest.weight c.requires.0.1.1
+    product c.args.iterations c.entry_at-first.result.heaviest.weight c.requires.count_in_bounds.1.1
     (few heaviest (goal.at.overflow_mul-result c).After-entry_at-first)
 
 pub overflow_mul-result-2 : goal.overflow_mul-result-2
 overflow_mul-result-2 c =
-    product c.args.iterations c.entry_at-first.result.lightest.weight c.requires.0.1.1
+    product c.args.iterations c.entry_at-first.result.lightest.weight c.requires.count_in_bounds.1.1
     (few lightest (goal.at.overflow_mul-result-2 c).After-entry_at-first)
 
 pub returns : goal.returns

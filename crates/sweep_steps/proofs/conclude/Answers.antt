@@ -3,6 +3,7 @@ use native.Mathlib.Omega.{arith}
 use mathlib.Core.Path.{◌≡◌}
 use Prim.Native.Nat.{ℕ, ◌≤◌}
 use Rattle.sweep_steps.specs.Ends.{unstarted, few_bytes, few_entries, crowd, all_rows}
+use borrow.Author.Rules.{rules}
 use Rattle.sweep_steps.proofs.conclude.Goals as goal
 
 zero : {n : ℕ} → n ≤ 0 → n ≡ 0
@@ -27,11 +28,10 @@ returns-then-entries-count c =
 
 pub answer-requires : goal.answer-requires
 answer-requires c =
-    (
-      (c.if-route-count.false, (search rules, c.requires.1.0 (zero c.if-ready-gt0.false))),
-      λ h.
-          c.requires.1.1 _ _ c.in-Rows.is h,
-    )
+    record {
+      count_in_bounds = (c.if-route-count.false, (search rules, c.requires.1.0 (zero c.if-ready-gt0.false)));
+      row_bound = λ h. c.requires.1.1 _ _ c.in-Rows.is h;
+    }
 
 pub returns-in-Crowded : goal.returns-in-Crowded
 returns-in-Crowded c =

@@ -12,5 +12,5 @@ returns c =
     (begun_with a.plan.now a.count a.s.b) c.begin-begun.new.row c.begin-begun.result
     c.begin-begun.ensures
     c.build-held.new.row c.build-held.result c.build-held.ensures
-    (c.build-held.auto.1.1.1.1.1.0 ∙ c.begin-begun.ensures.size) c.whole_of.result
+    (c.build-held.auto.row ∙ c.begin-begun.ensures.size) c.whole_of.result
     c.whole_of.ensures

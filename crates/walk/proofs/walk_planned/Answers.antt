@@ -10,6 +10,7 @@ use Rattle.walk.specs.declared.WalkAnswer.{WalkAnswer}
 use Rattle.walk.specs.Answer.{said}
 use Rattle.walk.specs.Ends.{way_in, short, over_budget, without_route, with_route, weight_few}
 use Rattle.walk.proofs.walk_planned.Goals as goal
+use Rattle.walk.proofs.walk_planned.Goals.{Else-found-ne1}
 
 pub returns-then-route-count : goal.returns-then-route-count
 returns-then-route-count c body cost p g size =
@@ -34,30 +35,21 @@ returns-then-found-ne1 c body cost p g size =
     a.count size a.route.now c.if-route-count.false a.iterations
     c.if-budget-walked.false c.if-found-ne1.true
 
--- once both routes are written
-abbrev Written : Type 0
-Written =
-    lts.After-slice-known2 (
-      refuse-reads.Asked,
-      refuse-reads.Learnt,
-      search-reads.Asked,
-      search-reads.Learnt,
-      write-routes-reads.Asked,
-      write-routes-reads.Learnt,
-    )
-    reads.Pre reads.Post
-
--- count times the weight of a choice fits
-total : (choice : Choice) (c : Written)
-    → Fits w64 (c.before.before.before.before.before.before.before.before.before.args.iterations
-    * (way_in choice c.before.before.before.before.before.before.search.result).0)
+-- count times the weight of a choice fits, once there is a route
+total : (choice : Choice) (c : Else-found-ne1)
+    → Fits w64 (c.args.iterations * (way_in choice c.search-found.result).0)
 total choice c =
-    let start = c.before.before.before.before.before.before.before.before.before in
-    let found = c.before.before.before.before.before.before.search in
-    product start.args.iterations (way_in choice found.result).0 start.requires.1.0
-    (weight_few choice start.args.plan.now start.args.count start.args.budget found.result
-    start.requires.0 found.ensures c.before.before.before.before.before.if2.false
-    c.before.before.before.before.if3.false)
+    let a = c.args in
+    let found = c.search-found in
+    product a.iterations (way_in choice found.result).0 c.requires.1.0
+    (weight_few choice a.plan.now a.count a.budget found.result c.requires.0 found.ensures
+    c.if-budget-walked.false c.if-found-ne1.false)
+
+pub overflow_mul-result : goal.overflow_mul-result
+overflow_mul-result c = total heaviest (goal.at.overflow_mul-result c).Else-found-ne1
+
+pub overflow_mul-result-2 : goal.overflow_mul-result-2
+overflow_mul-result-2 c = total lightest (goal.at.overflow_mul-result-2 c).Else-found-ne1
 
 pub returns : goal.returns
 returns c body cost p g size =
