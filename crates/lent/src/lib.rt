@@ -1,5 +1,6 @@
 // Bytes put into lent memory at a place: what the writer lays out and what the report prints.
 #![tactic(auto)]
+
 ghost use Rattle.std.specs.Prelude.{◌+◌, ◌≤◌, length};
 ghost use Rattle.lent.specs.Adding.{Adds};
 

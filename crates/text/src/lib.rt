@@ -4,7 +4,7 @@
 
 ghost use Rattle.std.specs.Prelude.{◌≡◌, ◌+◌, ◌≤◌, length};
 ghost use Rattle.lent.specs.Adding.{Adds};
-ghost use Rattle.text.specs.Text.{decimal, line as lineText, refusal_line, letter_of, step as stepText, route_line};
+ghost use Rattle.text.specs.Text.{decimal, line as line_text, refusal_line, letter_of, step as step_text, route_line};
 
 // A number in decimal digits.
 fn number(out: &mut [u8], at: usize, n: u64) -> usize
@@ -19,7 +19,7 @@ fn number(out: &mut [u8], at: usize, n: u64) -> usize
 // A word and a number.
 pub fn line(out: &mut [u8], at: usize, word: &[u8], n: u64) -> usize
     requires { at + length word.now + 21 ≤ length out.old }
-    ensures { Adds out.old at out.new result (lineText word.now n) ×
+    ensures { Adds out.old at out.new result (line_text word.now n) ×
         (result ≤ at + length word.now + 21) }
 {
     let a = lent::put(out, at, word);
@@ -50,7 +50,7 @@ fn letter(way: u8) -> u8
 // A block that is on the route, with its way.
 fn step(out: &mut [u8], at: usize, block: usize, way: u8) -> usize
     requires { at + 22 ≤ length out.old }
-    ensures { Adds out.old at out.new result (stepText block way) × (result ≤ at + 22) }
+    ensures { Adds out.old at out.new result (step_text block way) × (result ≤ at + 22) }
 {
     if way == 0 {
         return at;

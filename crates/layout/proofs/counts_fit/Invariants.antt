@@ -1,14 +1,9 @@
 -- `layout::counts_fit` meets its contract. The loop's invariant: the blocks' own effects, with what is left of the
 -- total, are the total with the own effects of the blocks to come. The measure is the blocks to come.
-use mathlib.Core.Path.{◌≡◌, sym, ◌∙◌}
-use Prim.Native.Nat.{suc, ◌+◌, ◌≤◌, ◌-◌}
-use native.Mathlib.Numerals.{add-one}
-use native.Mathlib.Omega.{arith}
-use borrow.Author.Tests.{ne_eqb}
-use lib.ListN.{get_or, take, drop}
-use lib.Seq.{get_or-take}
-use Rattle.form.specs.Form.{sum_own, zero_block}
-use Rattle.form.specs.Laying.{over_blocks, over_effects, within_counts, sum_step, sum_end, lacks}
+use mathlib.Core.Path.{◌≡◌}
+use Prim.Native.Nat.{◌+◌, ◌≤◌, ◌-◌}
+use lib.ListN.{take, drop}
+use Rattle.form.specs.Form.{sum_own}
 use Rattle.layout.proofs.counts_fit.Given as goal
 
 abbrev pub invariant-loop-k : goal.invariant-loop-k

@@ -6,8 +6,7 @@ use Rattle.lent.specs.Adding.{then, told}
 use Rattle.layout.proofs.lay_block.Goals as goal
 
 pub returns : goal.returns
-returns c =
-    (
-      omega (arith, ap length c.block_bytes-bytes.ensures),
-      then (told c.block_bytes-bytes.ensures c.put-after.ensures) c.lay_effects.ensures.1,
-    )
+returns c = (
+  omega (arith, ap length c.block_bytes-bytes.ensures),
+  then (told c.block_bytes-bytes.ensures c.put-after.ensures) c.lay_effects.ensures.1,
+)

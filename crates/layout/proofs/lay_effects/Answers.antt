@@ -1,12 +1,12 @@
 -- `layout::lay_effects` meets its contract.
 use mathlib.Core.Path.{◌≡◌, sym, ap, ◌∙◌}
-use Prim.Native.Nat.{◌+◌, ◌*◌, ◌≤◌, ◌-◌, ◌<◌}
+use Prim.Native.Nat.{◌<◌}
 use native.Mathlib.Omega.{arith}
-use lib.ListN.{length, take, drop, length-drop}
+use lib.ListN.{length, drop, length-drop}
 use lib.Seq.{get_or-drop}
-use Rattle.form.specs.Form.{lay_effects, effect_bytes, zero_effect}
+use Rattle.form.specs.Form.{effect_bytes, zero_effect}
 use Rattle.form.specs.Laying.{effects_next, effects_none}
-use Rattle.lent.specs.Adding.{Adds, then, nothing, told}
+use Rattle.lent.specs.Adding.{then, nothing, told}
 use Rattle.layout.proofs.lay_effects.Goals as goal
 use Rattle.layout.proofs.lay_effects.Goals.{After-effect_bytes-bytes}
 

@@ -1,10 +1,10 @@
 -- `lent::put` meets its contract.
 use mathlib.Core.Path.{◌≡◌, refl, ap, ◌∙◌}
-use Prim.Native.Nat.{ℕ, ◌+◌, ◌≤◌, ◌-◌}
+use Prim.Native.Nat.{ℕ}
 use native.Mathlib.Omega.{arith}
 use lib.ListN.{length, take}
 use lib.Seq.{take-length}
-use Rattle.lent.specs.Adding.{Adds, told, copied, as_long}
+use Rattle.lent.specs.Adding.{told, copied, as_long}
 use Rattle.lent.proofs.put.Goals as goal
 
 pub loop-j-init : goal.loop-j-init

@@ -1,10 +1,8 @@
 -- `put` meets its contract. The loop's invariant: the first j bytes are put. The measure is what is left of the bytes.
-use mathlib.Core.Path.{◌≡◌, refl, ap, ◌∙◌}
-use Prim.Native.Nat.{ℕ, ◌+◌, ◌≤◌, ◌-◌}
-use native.Mathlib.Omega.{arith}
+use mathlib.Core.Path.{◌≡◌}
+use Prim.Native.Nat.{◌+◌, ◌≤◌, ◌-◌}
 use lib.ListN.{length, take}
-use lib.Seq.{take-length}
-use Rattle.lent.specs.Adding.{Adds, told, copied, as_long}
+use Rattle.lent.specs.Adding.{Adds}
 use Rattle.lent.proofs.put.Given as goal
 
 abbrev pub invariant-loop-j : goal.invariant-loop-j

@@ -21,8 +21,6 @@ module _ (s : List ℕ) (at n k : ℕ) (kind : Kind) (is : kind ≡ kind_at s at
 pub returns-then-kind-eq-BLOCK : goal.returns-then-kind-eq-BLOCK
 returns-then-kind-eq-BLOCK c =
     let block = c.block_at-block.ensures in
-    
-    
     let start = c.args in
     c.refuse_if-then-kind-eq-BLOCK.ensures
     ∙ (λ i.

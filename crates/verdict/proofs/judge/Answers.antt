@@ -1,11 +1,10 @@
 -- `verdict::judge` meets its contract.
-use mathlib.Core.Path.{◌≡◌, refl, ap, sym, ◌∙◌}
-use Prim.Native.Nat.{ℕ, ◌+◌, ◌≤◌, ◌-◌}
+use mathlib.Core.Path.{refl, ap, sym, ◌∙◌}
+use Prim.Native.Nat.{ℕ, ◌+◌, ◌≤◌}
 use native.Mathlib.Omega.{arith}
-use lib.ListN.{length}
 use Rattle.form.specs.declared.Verdict.TheVariants.{Refused}
 use Rattle.form.specs.Writing.{judged_as}
-use Rattle.form.specs.Form.{judge, judge_records, records_from}
+use Rattle.form.specs.Form.{judge}
 use Rattle.form.specs.Records.{rest_leave, rest_pass, records_end, end_none, end_some}
 use Rattle.verdict.proofs.judge.Goals as goal
 

@@ -1,13 +1,9 @@
 -- `verdict::judge` meets its contract. The loop's invariant: what is left to judge says what the whole does, and no
 -- more blocks and effects are passed than bytes. The measure is what is left of the bytes.
-use mathlib.Core.Path.{◌≡◌, refl, ap, sym, ◌∙◌}
-use Prim.Native.Nat.{ℕ, ◌+◌, ◌≤◌, ◌-◌}
-use native.Mathlib.Omega.{arith}
+use mathlib.Core.Path.{◌≡◌}
+use Prim.Native.Nat.{◌≤◌, ◌-◌}
 use lib.ListN.{length}
-use Rattle.form.specs.declared.Verdict.TheVariants.{Refused}
-use Rattle.form.specs.Writing.{judged_as}
 use Rattle.form.specs.Form.{judge, judge_records, records_from}
-use Rattle.form.specs.Records.{rest_leave, rest_pass, records_end, end_none, end_some}
 use Rattle.verdict.proofs.judge.Given as goal
 
 abbrev pub invariant-loop-at : goal.invariant-loop-at

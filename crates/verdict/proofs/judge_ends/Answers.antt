@@ -1,9 +1,7 @@
 -- `verdict::judge_ends` meets its contract.
-use mathlib.Core.Path.{◌≡◌, refl, sym, ◌∙◌}
-use Prim.Native.Nat.{◌≤◌, ◌-◌}
+use mathlib.Core.Path.{sym, ◌∙◌}
 use native.Mathlib.Omega.{arith}
-use lib.ListN.{length}
-use Rattle.form.specs.Form.{judge_ends, records_from}
+use Rattle.form.specs.Form.{judge_ends}
 use Rattle.form.specs.Records.{ends_leave, ends_pass, records_end}
 use Rattle.verdict.proofs.judge_ends.Goals as goal
 

@@ -1,11 +1,9 @@
 -- `verdict::judge_ends` meets its contract. The loop's invariant: what is left to judge says what the whole does, and
 -- no more blocks are passed than bytes. The measure is what is left of the bytes.
-use mathlib.Core.Path.{◌≡◌, refl, sym, ◌∙◌}
+use mathlib.Core.Path.{◌≡◌}
 use Prim.Native.Nat.{◌≤◌, ◌-◌}
-use native.Mathlib.Omega.{arith}
 use lib.ListN.{length}
 use Rattle.form.specs.Form.{judge_ends, records_from}
-use Rattle.form.specs.Records.{ends_leave, ends_pass, records_end}
 use Rattle.verdict.proofs.judge_ends.Given as goal
 
 abbrev pub invariant-loop-at : goal.invariant-loop-at
