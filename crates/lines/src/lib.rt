@@ -2,6 +2,7 @@
 // numbers that are told; the last five, over routes and numbers that are told and the walk. Their words are those of
 // Lines, and what the functions leave in the bytes is in Parts.
 #![tactic(auto)]
+
 ghost use Rattle.std.specs.Prelude.{◌≡◌, ◌+◌, ◌≤◌, length};
 ghost use Rattle.form.specs.declared.Verdict.TheVariants.{Accepted};
 ghost use Rattle.form.specs.Form.{judge, body_of};

@@ -1,6 +1,7 @@
 // The writer of the order form: a body laid out (crate layout), judged as the reader would, and copied into lent bytes.
 // What is answered is in form's Answer.
 #![tactic(auto)]
+
 ghost use Rattle.std.specs.Prelude.{◌≡◌};
 ghost use Rattle.form.specs.Answer.{as_judged, Wrote};
 
