@@ -1,6 +1,7 @@
 // What the calls for C answer with: the structs of numbers, and each made of the answer of the layer below. 0 as number
 // is no refusal. What each number says is in specs/Answer.antt.
 #![tactic(auto)]
+
 ghost use Rattle.std.specs.Prelude.{◌≡◌};
 ghost use Rattle.walk.specs.Answer.{said};
 ghost use Rattle.numbers.specs.Answer.{count_values, count_said, walk_numbers, walk_values, sweep_numbers, sweep_values, sweep_said, list_numbers, form_answer, verdict_answer, written_answer};

@@ -9,6 +9,7 @@
 // A signed number is told with 2,147,483,648 added. The answer to each has 24 + 4,096 bytes: number, place and bytes
 // written, 8 bytes each, and the lent bytes, each of which was 165 before, followed by as many more that were not lent.
 #![tactic(auto)]
+
 ghost use Rattle.std.specs.Prelude.{◌≡◌, ◌+◌, ◌≤◌, length};
 
 use form::{Block, Body, Counter, Effect, Written};
