@@ -70,7 +70,8 @@ low : (a l : List ℕ) (i k : ℕ) → k < i → get_or (sets l i a) k 0 ≡ get
 low [] l i k h = refl
 low (x ∷ a) l i k h = low a (set l i x) (suc i) k (omega arith) ∙ get_or-set_other l i k x 0 (λ e. omega arith)
 
-within : (a l : List ℕ) (i k : ℕ) → k < length a → i + length a ≤ length l → get_or (sets l i a) (i + k) 0 ≡ get_or a k 0
+within : (a l : List ℕ) (i k : ℕ) → k < length a → i + length a ≤ length l
+    → get_or (sets l i a) (i + k) 0 ≡ get_or a k 0
 within [] l i k h room = elim h [ ]
 within (x ∷ a) l i zero h room =
     ap (λ (n : ℕ). get_or (sets (set l i x) (suc i) a) n 0) (add-zero i) ∙ low a (set l i x) (suc i) i (omega arith)

@@ -28,7 +28,8 @@ tenth n (suc i) h (least, below, above) =
     let low : 10 ^ suc i ≤ n = rw e at (above (omega arith)) in
     (omega arith, omega (arith, pow-suc 10 (suc i)), λ more. rw g (omega (arith, pow-suc 10 i)))
 
-front : (f n j : ℕ) → ((m : ℕ) → m < 10 ^ f → 10 ≤ n → IsDigitCount 10 1 m j → last_digits 10 j m ≡ digits_of f m) → n < 10 ^ suc f
+front : (f n j : ℕ)
+    → ((m : ℕ) → m < 10 ^ f → 10 ≤ n → IsDigitCount 10 1 m j → last_digits 10 j m ≡ digits_of f m) → n < 10 ^ suc f
     → IsDigitCount 10 1 n (suc j)
     → (b : Bool) → ltb n 10 ≡ b → last_digits 10 j (n / 10) ≡ cond b [] (digits_of f (n / 10))
 front f n j more h w true e = rw (alone n j (ltb-true n 10 e) w)

@@ -31,9 +31,10 @@ turn c =
 pub returns-then-left-own : goal.returns-then-left-own
 returns-then-left-own c =
     let body = c.args.body in
+    let step = turn (goal.at.returns-then-left-own c).In-loop-k in
     sym
     (within_counts _ c.if-count-gt64.false c.if-total-gt256.false
-    ∙ ne_eqb (sum_own (take body.count body.blocks)) body.total (λ e. omega (arith, turn (goal.at.returns-then-left-own c).In-loop-k)))
+    ∙ ne_eqb (sum_own (take body.count body.blocks)) body.total (λ e. omega (arith, step)))
 
 pub loop-k-preserved : goal.loop-k-preserved
 loop-k-preserved c = rw (add-one c.loop-k.k) (omega (arith, turn (goal.at.loop-k-preserved c).In-loop-k))

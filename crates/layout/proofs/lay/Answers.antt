@@ -1,5 +1,6 @@
 -- `layout::lay` meets its contract: a turn lays out the next of the counted blocks, and at the end none is left.
-use Rattle.std.proofs.Common.{◌≡◌, sym, ap, ◌∙◌, List, ℕ, ◌++◌, ◌+◌, ◌≤◌, ◌<◌, length, take, drop, get_or, length-take, add-one, arith}
+use Rattle.std.proofs.Common.{◌≡◌, sym, ap, ◌∙◌}
+use Rattle.std.proofs.Common.{List, ℕ, ◌++◌, ◌+◌, ◌≤◌, ◌<◌, length, take, drop, get_or, length-take, add-one, arith}
 use Rattle.std.proofs.Math.Seq.{get_or-take, length-take-le}
 use Rattle.form.specs.declared.Body.{Body}
 use Rattle.form.specs.Form.{counter_bytes, lay_blocks, lay, sum_own, zero_block}
@@ -61,7 +62,8 @@ returns c =
       sum_end body.count loop.k all body.blocks,
     ) in
     let counted : take c.put-at.result c.put-at.new.out ≡ counter_bytes body.counter =
-    up_to_end c.put-at.ensures (omega (arith, ap length c.counter_bytes-first.ensures)) ∙ c.counter_bytes-first.ensures in
+    up_to_end c.put-at.ensures (omega (arith, ap length c.counter_bytes-first.ensures))
+    ∙ c.counter_bytes-first.ensures in
     let laid =
     blocks_end body.count loop.k all body.blocks (drop loop.e body.effects) (take loop.at loop.buf) _ loop.invariant.0
     ∙ ap (λ (l : List ℕ). l ++ lay_blocks (blocks_counted body) body.effects) counted in

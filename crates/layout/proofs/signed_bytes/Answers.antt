@@ -41,4 +41,6 @@ overflow_sub-below-2 c =
     rw (turned c) small
 
 pub returns : goal.returns
-returns c = rw (turned (goal.at.returns c).Else-z-ge0) at c.bytes_of-2.ensures ∙ ap bytes_of (below (goal.at.returns c).Else-z-ge0).3
+returns c =
+    let before = (goal.at.returns c).Else-z-ge0 in
+    rw (turned before) at c.bytes_of-2.ensures ∙ ap bytes_of (below before).3

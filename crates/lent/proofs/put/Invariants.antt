@@ -7,7 +7,8 @@ use Rattle.lent.proofs.put.Given as goal
 
 abbrev pub invariant-loop-j : goal.invariant-loop-j
 invariant-loop-j l =
-    Adds l.initial.out l.at l.out (l.at + l.j) (take l.j l.bytes) × ((l.j ≤ length l.bytes) × (length l.out ≡ length l.initial.out))
+    Adds l.initial.out l.at l.out (l.at + l.j) (take l.j l.bytes)
+    × ((l.j ≤ length l.bytes) × (length l.out ≡ length l.initial.out))
 
 abbrev pub decreases-loop-j : goal.decreases-loop-j
 decreases-loop-j l = length l.bytes - l.j
