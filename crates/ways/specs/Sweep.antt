@@ -48,6 +48,7 @@ module _ (form : List ℕ) (lent : List ℕ) (table : List Entry) where
   pub late_high : (n : ℕ) → Mem n late → 40 ≤ n
   late_high n (inl e) = omega arith
   late_high n (inr (inl e)) = omega arith
+  late_high n (inr (inr (inr (inr x4)))) = elim x4 [ ]
   late_high n (inr (inr (inl e))) = omega arith
   late_high n (inr (inr (inr (inl e)))) = omega arith
 

@@ -37,6 +37,7 @@ module _ (form : List ℕ) (budget : ℕ) (lent : List ℕ) where
 
   pub late_high : (n : ℕ) → Mem n late → 40 ≤ n
   late_high n (inl e) = omega arith
+  late_high n (inr (inr (inr x3))) = elim x3 [ ]
   late_high n (inr (inl e)) = omega arith
   late_high n (inr (inr (inl e))) = omega arith
 
