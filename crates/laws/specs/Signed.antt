@@ -1,6 +1,6 @@
 -- Signed numbers of the machine as whole numbers: the range of a width in `up` and `dn`, a number read back from its
 -- bits, and what the division asks and gives. Rests on Whole.
-use Rattle.std.specs.Prelude.{◌≡◌, ◌+◌, ◌-◌, ◌/◌, ◌%◌, ◌^◌, ◌<◌, ◌≤◌, ℤ, pos, negsuc, neg_ℤ, ◌+ℤ◌, ◌-ℤ◌}
+use Rattle.std.specs.Prelude.{◌≡◌, ◌+◌, ◌/◌, ◌%◌, ◌^◌, ◌<◌, ◌≤◌, ℤ, pos, negsuc, neg_ℤ, ◌+ℤ◌, ◌-ℤ◌}
 use Rattle.std.proofs.Common.{ap, ◌∙◌, div-le_self, arith, to_z-of_z}
 use Rattle.std.specs.Int.Signed.{mag, quot_z, rem_z}
 use Rattle.std.specs.Int.{Width, w32, w64}

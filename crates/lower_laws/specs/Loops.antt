@@ -1,7 +1,7 @@
 -- The count of a loop: there is at most one, it is at most 4,294,967,295, and a closed form has it or says that there
 -- is none. Rests on Steps: a loop is steps up from 0 with a gap to the limit and a room to the range's end, or such a
 -- loop in the mirror.
-use Rattle.std.specs.Prelude.{◌≡◌, refl, Bool, true, false, cond, ℕ, zero, suc, ◌+◌, ◌-◌, ◌*◌, ◌<◌, ◌≤◌, ℤ, pos, negsuc, ◌+ℤ◌, ◌-ℤ◌}
+use Rattle.std.specs.Prelude.{◌≡◌, refl, Bool, true, false, cond, ℕ, zero, suc, ◌+◌, ◌*◌, ◌<◌, ◌≤◌, ℤ, pos, negsuc, ◌+ℤ◌, ◌-ℤ◌}
 use Rattle.std.proofs.Common.{sym, ap, subst, ◌∙◌, mul_comm, mul-suc, mul-le-mul_left, le-mul_of_pos_right, arith, SFits}
 use Rattle.std.specs.Int.{w32}
 use Rattle.laws.specs.Whole.{up, dn, not_negative, same_whole, sum_is, diff_is}
