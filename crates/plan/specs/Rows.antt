@@ -10,7 +10,7 @@ use Rattle.laws.specs.Terms.{Mem, bit, set_of}
 use Rattle.laws.specs.Sets.{bit_set_of, bit_set_of_beyond, below_or_not}
 use Rattle.form.specs.declared.Block.{Block}
 use Rattle.form.specs.declared.Body.{Body}
-use Rattle.form.specs.Conflict.{Edge, block, exits_by, exits, way_to, is_test, condition, touches, opposes, denies, listed, conflicts, same, Sound, no_block}
+use Rattle.form.specs.Conflict.{Edge, block, exits_by, exits, way_to, is_test, condition, touches, opposes, denies, listed, conflicts, Sound, no_block}
 use Rattle.lower_laws.specs.Endings.{by_exits}
 use Rattle.lower_laws.specs.Joined.{past_count, no_test, denies_test, opposes_test, listed_none}
 use Rattle.form.specs.Form.{when}

@@ -1,7 +1,7 @@
 -- From the rows to the sweep's answer: what the functions that answer do, and that it is what is owed (`ended`). Rests
 -- on Answer, Drive, plan's Prepared and theory's WalkWords.
 use Rattle.std.proofs.Math.Path.{◌≡◌, sym, ap}
-use Rattle.std.specs.Prelude.{refl, Bool, true, false, cond, ℕ, min, ◌+◌, ◌*◌, ◌≤◌, ◌<◌, eqb, ltb, length, get_or, drop}
+use Rattle.std.specs.Prelude.{refl, Bool, true, false, cond, ℕ, min, ◌*◌, ◌≤◌, ◌<◌, eqb, ltb, length, get_or, drop}
 use Rattle.std.proofs.Common.{ap₂, subst, ◌∙◌, zero-add, arith, lt-ltb, le-ltb, eq-eqb, ne_eqb, ltb-true, ltb-false}
 use mathlib.Core.List.{List, [], ◌∷◌, ◌++◌}
 use Rattle.std.proofs.Math.Option.{Option, none, some}

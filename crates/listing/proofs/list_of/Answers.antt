@@ -44,15 +44,14 @@ pub returns-then-out-bytes : goal.returns-then-out-bytes
 returns-then-out-bytes c = (too_few _ _ _ (numbered (goal.at.returns-then-out-bytes c).After-found_number-bytes (found-by (goal.at.returns-then-out-bytes c).After-find-f)) c.if-out-bytes.true, refl)
 
 pub found_entries-end-requires : goal.found_entries-end-requires
-found_entries-end-requires c =
-    (
-      found_rows _ _ (found-by (goal.at.found_entries-end-requires c).After-find-f),
-      omega (
-        arith,
-        ap length (same_bytes (goal.at.found_entries-end-requires c).After-find-f),
-        has_room _ _ _ (numbered (goal.at.found_entries-end-requires c).After-found_number-bytes (found-by (goal.at.found_entries-end-requires c).After-find-f)) c.if-out-bytes.false,
-      ),
-    )
+found_entries-end-requires c = (
+  found_rows _ _ (found-by (goal.at.found_entries-end-requires c).After-find-f),
+  omega (
+    arith,
+    ap length (same_bytes (goal.at.found_entries-end-requires c).After-find-f),
+    has_room _ _ _ (numbered (goal.at.found_entries-end-requires c).After-found_number-bytes (found-by (goal.at.found_entries-end-requires c).After-find-f)) c.if-out-bytes.false,
+  ),
+)
 
 pub returns : goal.returns
 returns c =

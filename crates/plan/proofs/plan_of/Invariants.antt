@@ -1,13 +1,10 @@
 -- `plan_of` meets its contract. The loop's invariant: the rows of the blocks below b stand in the plan. The measure is
 -- the blocks to come.
-use mathlib.Core.List.{List}
-use mathlib.Core.Path.{◌≡◌, refl, sym, ap}
-use Prim.Native.Nat.{ℕ, ◌≤◌, ◌-◌}
-use native.Mathlib.Omega.{arith}
+use mathlib.Core.Path.{◌≡◌}
+use Prim.Native.Nat.{◌≤◌, ◌-◌}
 use lib.ListN.{length, get_or}
 use Rattle.form.specs.Conflict.{no_block}
-use Rattle.sets.specs.Worded.{worded}
-use Rattle.plan.specs.Rows.{row_with, row_from, Rows, rows_more, planned_rows}
+use Rattle.plan.specs.Rows.{row_from, Rows}
 use Rattle.plan.proofs.plan_of.Given as goal
 
 abbrev pub invariant-loop-b : goal.invariant-loop-b

@@ -1,10 +1,10 @@
 -- `plan::put_row` meets its contract.
 use mathlib.Core.Path.{◌≡◌, refl, sym, ap, ◌∙◌}
-use Prim.Native.Nat.{ℕ, ◌+◌, ◌*◌, ◌≤◌, ◌-◌}
+use Prim.Native.Nat.{ℕ, ◌*◌}
 use native.Mathlib.Omega.{arith}
-use lib.ListN.{length, take}
+use lib.ListN.{take}
 use lib.Seq.{take-length}
-use Rattle.lent.specs.Adding.{Adds, told, copied, as_long}
+use Rattle.lent.specs.Adding.{told, copied, as_long}
 use Rattle.plan.proofs.put_row.Goals as goal
 
 pub loop-w-init : goal.loop-w-init

@@ -1,10 +1,8 @@
 -- `put_row` meets its contract. The loop's invariant: the first w words are put. The measure is the words to come.
-use mathlib.Core.Path.{◌≡◌, refl, sym, ap, ◌∙◌}
-use Prim.Native.Nat.{ℕ, ◌+◌, ◌*◌, ◌≤◌, ◌-◌}
-use native.Mathlib.Omega.{arith}
+use mathlib.Core.Path.{◌≡◌}
+use Prim.Native.Nat.{◌+◌, ◌*◌, ◌≤◌, ◌-◌}
 use lib.ListN.{length, take}
-use lib.Seq.{take-length}
-use Rattle.lent.specs.Adding.{Adds, told, copied, as_long}
+use Rattle.lent.specs.Adding.{Adds}
 use Rattle.plan.proofs.put_row.Given as goal
 
 abbrev pub invariant-loop-w : goal.invariant-loop-w

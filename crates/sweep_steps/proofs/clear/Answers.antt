@@ -1,8 +1,7 @@
 -- `sweep_steps::clear` meets its contract.
-use mathlib.Core.Path.{◌≡◌, ◌∙◌}
-use Prim.Native.Nat.{ℕ, ◌-◌, ◌<◌, ◌≤◌}
+use mathlib.Core.Path.{◌∙◌}
 use native.Mathlib.Omega.{arith}
-use lib.ListN.{length, get_or, length-set}
+use lib.ListN.{length-set}
 use Rattle.sweep_steps.specs.Turn.{zeros_more, zeros_all}
 use Rattle.sweep_steps.proofs.clear.Goals as goal
 

@@ -1,10 +1,8 @@
 -- `sweep_steps::clear` meets its contract. The loop's invariant: the words before k are zero. The measure is what is
 -- left.
-use mathlib.Core.Path.{◌≡◌, ◌∙◌}
+use mathlib.Core.Path.{◌≡◌}
 use Prim.Native.Nat.{ℕ, ◌-◌, ◌<◌, ◌≤◌}
-use native.Mathlib.Omega.{arith}
-use lib.ListN.{length, get_or, length-set}
-use Rattle.sweep_steps.specs.Turn.{zeros_more, zeros_all}
+use lib.ListN.{length, get_or}
 use Rattle.sweep_steps.proofs.clear.Given as goal
 
 abbrev pub invariant-loop-k : goal.invariant-loop-k

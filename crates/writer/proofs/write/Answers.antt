@@ -2,7 +2,6 @@
 use mathlib.Core.Path.{◌≡◌, refl, ap, sym, ◌∙◌}
 use mathlib.Core.Bool.{true}
 use native.Mathlib.Omega.{arith}
-use borrow.Author.Tests.{not-true, not-false}
 use lib.ListN.{length, take}
 use Rattle.form.specs.Form.{judge, lay, counts_fit}
 use Rattle.form.specs.Writing.{wrote_as, counts_refused, held_refused, form_refused, room_short, room_enough}

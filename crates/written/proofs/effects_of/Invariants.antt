@@ -1,6 +1,5 @@
 -- `written::effects_of` is proved: every index is inside. Assumes nothing.
 use Prim.Native.Nat.{◌≤◌, ◌-◌}
-use native.Mathlib.Omega.{arith}
 use Rattle.written.proofs.effects_of.Given as goal
 
 abbrev pub invariant-loop-k : goal.invariant-loop-k

@@ -1,6 +1,5 @@
 -- `written::main` is proved: as many bodies are asked as the head says. Assumes nothing.
 use Prim.Native.Nat.{◌≤◌, ◌-◌}
-use native.Mathlib.Omega.{arith}
 use Rattle.written.proofs.main.Given as goal
 
 abbrev pub invariant-loop-k : goal.invariant-loop-k

@@ -1,10 +1,8 @@
 -- `plan::route::write_route` meets its contract.
-use Prim.Native.Nat.{◌+◌, ◌-◌, ◌≤◌}
-use mathlib.Core.Path.{◌≡◌, refl}
+use mathlib.Core.Path.{refl}
 use native.Mathlib.Omega.{arith}
-use lib.ListN.{length}
-use Rattle.lent.specs.Adding.{Adds, as_long}
-use Rattle.plan.specs.RouteWords.{bytes_below, written_more, written_all}
+use Rattle.lent.specs.Adding.{as_long}
+use Rattle.plan.specs.RouteWords.{written_more, written_all}
 use Rattle.plan.proofs.route.write_route.Goals as goal
 
 pub loop-b-init : goal.loop-b-init

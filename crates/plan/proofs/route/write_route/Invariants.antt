@@ -1,11 +1,10 @@
 -- `write_route` meets its contract. The loop's invariant: the bytes of the blocks below b stand in the lent bytes. The
 -- measure is what is left of the blocks.
 use Prim.Native.Nat.{◌+◌, ◌-◌, ◌≤◌}
-use mathlib.Core.Path.{◌≡◌, refl}
-use native.Mathlib.Omega.{arith}
+use mathlib.Core.Path.{◌≡◌}
 use lib.ListN.{length}
-use Rattle.lent.specs.Adding.{Adds, as_long}
-use Rattle.plan.specs.RouteWords.{bytes_below, written_more, written_all}
+use Rattle.lent.specs.Adding.{Adds}
+use Rattle.plan.specs.RouteWords.{bytes_below}
 use Rattle.plan.proofs.route.write_route.Given as goal
 
 abbrev pub invariant-loop-b : goal.invariant-loop-b
