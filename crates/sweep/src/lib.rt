@@ -1,7 +1,8 @@
 // The sweep: over the plan of a body, from the last block down, row by row, into a lent table of entries, which is its
-// memory: row b stands from entry 64 b on. Every function here has a slice of structs and is proved by a walk of its
-// code by hand; none has a branch. The steps, on local rows of numbers, and what is owed are in crate sweep_steps.
+// memory: row b stands from entry 64 b on. Here is all that reads or writes the table, and none of it has a branch. The
+// steps, on local rows of numbers, and what is owed are in crate sweep_steps.
 #![tactic(auto)]
+
 ghost use Rattle.std.specs.Prelude.{◌≡◌, ℕ, ◌+◌, ◌*◌, ◌<◌, ◌≤◌, length};
 ghost use Rattle.theory.specs.Plan.{PlanOf};
 ghost use Rattle.sweep_steps.specs.Answer.{outcome_of, SweepOwed, OwnTableOwed};
