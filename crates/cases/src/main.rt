@@ -2,6 +2,7 @@
 // answer would be printed otherwise; likewise the cheapest iteration of request A1. A line for each answer, with all
 // its numbers; last the writer's refusals, one by one and in their order. The marked cases are proved (crate marked).
 #![tactic(auto)]
+
 mod bodies;
 mod show;
 

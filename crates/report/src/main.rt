@@ -3,6 +3,7 @@
 // form is longer than 3,665 bytes, and any input is judged by its first 3,682 (roundtrip.Front.front), so what is not
 // read changes no answer (Promise.any-length). A read that fails counts as the end of the input.
 #![tactic(auto)]
+
 ghost use Rattle.std.specs.Prelude.{◌≤◌, length, take};
 ghost use Rattle.report.specs.Report.{Reported};
 

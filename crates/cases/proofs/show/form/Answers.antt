@@ -1,0 +1,9 @@
+-- `cases::show::form` meets its contract: what the writer says it has written stands in the lent bytes (Room). Assumes
+-- nothing.
+use Rattle.cases.specs.Room.{written_fits}
+use Rattle.cases.proofs.show.form.Goals as goal
+
+pub returns-in-Bytes : goal.returns-in-Bytes
+returns-in-Bytes c =
+    written_fits _ _ _ _ _ c.write.ensures.0 c.write.ensures.1.0
+    c.in-Bytes.is
