@@ -47,9 +47,8 @@ returns-in-Routed c =
     )
 
 pub returns-in-Refused : goal.returns-in-Refused
-returns-in-Refused c =
-    (
-      refused_reported _ _ _ _ _ _ _ _ c.sweep_own.ensures c.in-Refused.is c.refused.ensures.0
-          (omega (arith, c.refused.ensures.1)),
-      omega (arith, c.refused.ensures.1),
-    )
+returns-in-Refused c = (
+  refused_reported _ _ _ _ _ _ _ _ c.sweep_own.ensures c.in-Refused.is c.refused.ensures.0
+      (omega (arith, c.refused.ensures.1)),
+  omega (arith, c.refused.ensures.1),
+)
