@@ -2,6 +2,7 @@
 // layers below and returns their numbers by value (crate numbers), so that a refusal writes to no lent memory. A part
 // of no bytes may have any pointer.
 #![tactic(auto)]
+
 ghost use Rattle.std.specs.Prelude.{◌≡◌, length};
 ghost use Rattle.laws.specs.Terms.{digit};
 ghost use Rattle.form.specs.Form.{judge, body_of};
