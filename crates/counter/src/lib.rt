@@ -186,6 +186,7 @@ fn passes(initial: i32, step: i32, relation: u8, limit: i32) -> u64
 }
 
 // The count of a loop, asked with four numbers.
+#[tactic(auto, using(crate::specs::Answer::no_relation))]
 pub fn count(initial: i32, step: i32, relation: u8, limit: i32) -> Counted
     ensures { Owed initial step relation limit (said result) }
 {

@@ -161,6 +161,7 @@ fn greater(a: usize, b: usize) -> usize
 }
 
 // After a block whose row has so many entries; a crowded one ends the drive.
+#[tactic(auto, using(crate::specs::Driven::following_over))]
 pub fn following_of(at: Drive, found: usize) -> Drive
     requires { ((0 < at.b) × (at.b ≤ 64)) × (length at.lengths ≡ 64) }
     ensures { result ≡ following at found }
@@ -290,6 +291,7 @@ pub fn lesser(a: usize, b: usize) -> usize
 }
 
 // The answer, from the rows and row 0; both routes' bytes.
+#[tactic(auto, using(crate::specs::Ends::unstarted))]
 pub fn conclude(
     ready: Prepared,
     entries: usize,

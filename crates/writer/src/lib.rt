@@ -16,6 +16,7 @@ fn as_judged(verdict: form::Verdict, rest: form::Written) -> form::Written
 }
 
 // The writer, for any body: its form in the lent bytes, or a refusal that changes none of them.
+#[tactic(auto, using(crate::proofs::Away::away))]
 pub fn write(body: form::Body, out: &mut [u8]) -> form::Written
     ensures { Wrote body out.old result out.new }
 {

@@ -4,12 +4,10 @@ use mir.Facts.{to_z-of_z}
 use Rattle.form.specs.Counter.{Count}
 use Rattle.lower_laws.specs.Steps.{Found, found_none, found_some}
 use Rattle.lower_laws.specs.Loops.{count_of, count_found}
-use Rattle.counter.specs.Answer.{no_relation, no_count, counted}
+use native.Mathlib.Omega.{arith}
+use Rattle.counter.specs.Answer.{no_count, counted}
 use Rattle.counter.proofs.count.Goals as goal
 use Rattle.counter.proofs.count.Goals.{After-passes-k}
-
-pub returns-then-relation-gt5 : goal.returns-then-relation-gt5
-returns-then-relation-gt5 c = no_relation c.if-relation-gt5.true refl
 
 found : (c : After-passes-k)
     → Found (Count c.args.initial c.args.step
@@ -23,13 +21,13 @@ found c =
 
 pub returns-then-k-eq0 : goal.returns-then-k-eq0
 returns-then-k-eq0 c =
-    no_count c.if-relation-gt5.false
+    no_count (omega arith)
     (found_none (Count c.args.initial c.args.step c.args.relation c.args.limit)
     c.passes-k.result c.if-k-eq0.true (found (goal.at.returns-then-k-eq0 c).After-passes-k)) refl
 
 pub returns-else-k-eq0 : goal.returns-else-k-eq0
 returns-else-k-eq0 c =
     let k = c.passes-k.result in
-    counted c.if-relation-gt5.false k
+    counted (omega arith) k
     (found_some (Count c.args.initial c.args.step c.args.relation c.args.limit) k c.if-k-eq0.false
     (found (goal.at.returns-else-k-eq0 c).After-passes-k)) refl

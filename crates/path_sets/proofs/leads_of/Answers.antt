@@ -4,6 +4,7 @@ use Prim.Native.Nat.{ℕ, ◌+◌, ◌-◌, ◌≤◌, ◌<◌}
 use native.Mathlib.Omega.{arith}
 use Rattle.words.specs.Filled.{fits_8, below_256}
 use Rattle.path_sets.specs.Leading.{leading_none, leading_more, leading_end}
+use borrow.Author.Rules.{rules}
 use Rattle.path_sets.proofs.leads_of.Goals as goal
 use Rattle.path_sets.proofs.leads_of.Goals.{After-put-here}
 
@@ -38,7 +39,7 @@ pub loop-b-preserved : goal.loop-b-preserved
 loop-b-preserved c = (
   within (bounds-jump-b (goal.at.loop-b-preserved c).After-put-here),
   leading_more _ _ _ c.requires c.loop-b.b _ _ _ _ _ (bounds-jump-b (goal.at.loop-b-preserved c).After-put-here) (next c.loop-b-test.true)
-      c.loop-b.invariant.1 _ _ _ _ _ c.word_at-j.ensures c.word_at-f.ensures c.either-led.ensures
+      c.loop-b.invariant.1 _ _ _ _ _ c.word_at-j.ensures c.word_at-f.ensures (search rules)
       c.put-here.ensures c.less.ensures,
 )
 

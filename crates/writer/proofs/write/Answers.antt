@@ -4,7 +4,8 @@ use mathlib.Core.Bool.{true}
 use native.Mathlib.Omega.{arith}
 use lib.ListN.{length, take}
 use Rattle.form.specs.Form.{judge, lay, counts_fit}
-use Rattle.form.specs.Writing.{wrote_as, counts_refused, held_refused, form_refused, room_short, room_enough}
+use Rattle.form.specs.Answer.{accepted}
+use Rattle.form.specs.Writing.{wrote_as, counts_refused, room_short, room_enough}
 use Rattle.lent.specs.Adding.{told, from_start}
 use Rattle.writer.proofs.write.Goals as goal
 use Rattle.writer.proofs.write.Goals.{After-judge-verdict, After-lay-n}
@@ -32,17 +33,9 @@ on-form : (c : After-judge-verdict)
     → c.judge-verdict.result ≡ judge (lay c.args.body)
 on-form c = c.judge-verdict.ensures.0 ∙ ap judge c.lay-n.ensures.1.1
 
-pub returns-then-not-accepts : goal.returns-then-not-accepts
-returns-then-not-accepts c =
-    let refused = sym c.accepts.ensures ∙ c.if-not-accepts.true in
-    wrote_as _ _ _ _ (c.as_judged.ensures ∙ form_refused _ _ (fit (goal.at.returns-then-not-accepts c).After-lay-n) _ (on-form (goal.at.returns-then-not-accepts c).After-judge-verdict)
-    refused)
-    (rw c.as_judged.ensures (held_refused c.judge-verdict.result (lay c.args.body) c.args.out.now
-    refused))
-
 pub returns-then-out-n : goal.returns-then-out-n
 returns-then-out-n c =
-    let accepting = sym c.accepts.ensures ∙ c.if-not-accepts.false in
+    let accepting : accepted c.judge-verdict.result ≡ true = cc in
     wrote_as _ _ _ _
     (rw c.lay-n.ensures.0
     (room_short _ _ (fit (goal.at.returns-then-out-n c).After-lay-n) _ (on-form (goal.at.returns-then-out-n c).After-judge-verdict) accepting (rw c.lay-n.ensures.0 at c.if-out-n.true)))
@@ -56,7 +49,7 @@ put-requires c = omega (arith, all_laid (goal.at.put-requires c).After-lay-n)
 
 pub returns : goal.returns
 returns c =
-    let accepting = sym c.accepts.ensures ∙ c.if-not-accepts.false in
+    let accepting : accepted c.judge-verdict.result ≡ true = cc in
     wrote_as _ _ _ _
     (rw c.lay-n.ensures.0
     (room_enough _ _ (fit (goal.at.returns c).After-lay-n) _ (on-form (goal.at.returns c).After-judge-verdict) accepting (rw c.lay-n.ensures.0 at c.if-out-n.false)))
