@@ -232,6 +232,7 @@ fn refuse(number: u32, place: usize) -> SweepAnswer
 }
 
 // From row 0, which has one entry or none: the answer, and both routes' bytes.
+#[tactic(auto, using(crate::specs::Ends::answer_none))]
 fn answer(
     count: usize,
     iterations: u64,

@@ -7,25 +7,16 @@ use Rattle.theory.specs.Plan.{cost_limit}
 use Rattle.plan.specs.Accepted.{product}
 use Rattle.entries.specs.declared.Entry.{Entry}
 use Rattle.entries.specs.Structs.{tuple_of}
-use Rattle.sweep_steps.specs.Ends.{entry_in, answer_of, answer_none, answer_some}
+use Rattle.sweep_steps.specs.Ends.{answer_of, answer_some}
 use Rattle.sweep_steps.proofs.answer.Goals as goal
 use Rattle.sweep_steps.proofs.answer.Goals.{After-entry_at-first}
-
-positive : (n : ℕ) → (n ≡ 0 → ⊥) → 0 < n
-positive n d = omega arith
-
-pub returns-then-found-eq0 : goal.returns-then-found-eq0
-returns-then-found-eq0 c =
-    let a = c.args in
-    answer_none a.count a.iterations a.kept a.found (entry_in a.row.now) a.route.now
-    c.if-found-eq0.true c.refuse.ensures
 
 -- the weight of the choice in the entry that was read keeps to the limit
 few : (choice : Choice) (c : After-entry_at-first)
     → (chosen choice (tuple_of c.entry_at-first.result).1).0 ≤ cost_limit
 few choice c =
     subst (λ (e : Entry). (chosen choice (tuple_of e).1).0 ≤ cost_limit) (sym c.entry_at-first.ensures)
-    (c.requires.row_bound (positive c.args.found c.if-found-eq0.false) choice)
+    (c.requires.row_bound (omega arith) choice)
 
 pub overflow_mul-result : goal.overflow_mul-result
 overflow_mul-result c =
@@ -41,6 +32,6 @@ pub returns : goal.returns
 returns c =
     let a = c.args in
     answer_some a.count a.iterations a.kept a.found c.entry_at-first.result a.route.now
-    c.if-found-eq0.false c.write_routes.ensures
+    (omega arith) c.write_routes.ensures
     ∙ ap (λ (e : Entry). answer_of a.count a.iterations a.kept a.found e a.route.now)
     c.entry_at-first.ensures
