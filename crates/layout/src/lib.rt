@@ -110,6 +110,7 @@ fn lay_effects(
 }
 
 // Whether a body's counts are within the limits and its blocks' own effects add up.
+#[tactic(auto, using(form::specs::Laying::over_blocks, form::specs::Laying::over_effects))]
 pub fn counts_fit(body: form::Body) -> bool
     ensures { result ≡ counts_fit body }
 {

@@ -8,6 +8,7 @@ ghost use Rattle.laws.specs.Terms.{digit, bit};
 ghost use Rattle.words.specs.Tabled.{least};
 
 // Whether k is in x.
+#[tactic(auto, using(crate::proofs::Past::past), unfolding(laws::specs::Terms::bit))]
 pub fn has(x: u64, k: usize) -> bool
     ensures { result ≡ bit x k }
 {

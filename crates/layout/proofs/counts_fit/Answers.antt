@@ -7,15 +7,9 @@ use borrow.Author.Tests.{ne_eqb}
 use lib.ListN.{get_or, take, drop}
 use lib.Seq.{get_or-take}
 use Rattle.form.specs.Form.{sum_own, zero_block}
-use Rattle.form.specs.Laying.{over_blocks, over_effects, within_counts, sum_step, sum_end, lacks}
+use Rattle.form.specs.Laying.{within_counts, sum_step, sum_end, lacks}
 use Rattle.layout.proofs.counts_fit.Goals as goal
 use Rattle.layout.proofs.counts_fit.Goals.{In-loop-k}
-
-pub returns-then-count-gt64 : goal.returns-then-count-gt64
-returns-then-count-gt64 c = over_blocks _ c.if-count-gt64.true
-
-pub returns-then-total-gt256 : goal.returns-then-total-gt256
-returns-then-total-gt256 c = over_effects _ c.if-total-gt256.true
 
 -- a turn's block in the sum of those to come
 turn :
@@ -33,7 +27,7 @@ returns-then-left-own c =
     let body = c.args.body in
     let step = turn (goal.at.returns-then-left-own c).In-loop-k in
     sym
-    (within_counts _ c.if-count-gt64.false c.if-total-gt256.false
+    (within_counts _ (omega arith) (omega arith)
     ∙ ne_eqb (sum_own (take body.count body.blocks)) body.total (λ e. omega (arith, step)))
 
 pub loop-k-preserved : goal.loop-k-preserved
@@ -46,4 +40,4 @@ returns c =
     let none : sum_own (drop c.loop-k.k (take body.count body.blocks)) ≡ 0 =
     sum_end body.count c.loop-k.k all body.blocks in
     lacks (sum_own (take body.count body.blocks)) c.loop-k.left body.total (omega arith)
-    ∙ sym (within_counts _ c.if-count-gt64.false c.if-total-gt256.false)
+    ∙ sym (within_counts _ (omega arith) (omega arith))

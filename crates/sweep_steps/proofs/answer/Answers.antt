@@ -1,6 +1,6 @@
 -- `sweep_steps::answer` meets its contract.
-use mathlib.Core.Path.{◌≡◌, sym, ap, subst, ◌∙◌}
-use Prim.Native.Nat.{ℕ, ◌<◌, ◌≤◌}
+use mathlib.Core.Path.{sym, ap, subst, ◌∙◌}
+use Prim.Native.Nat.{◌≤◌}
 use native.Mathlib.Omega.{arith}
 use Rattle.laws.specs.Terms.{Choice, heaviest, lightest, chosen}
 use Rattle.theory.specs.Plan.{cost_limit}

@@ -1,0 +1,2 @@
+-- What a word has past its bits.
+pub mod Past
