@@ -1,6 +1,6 @@
 /* Answers the comparison drivers for the proved static library, which is compiled for x86-64 Linux (src/served.rs says how
    questions and answers are laid out). It uses no C library and no header but the proved library's own, so that the
-   compiler and linker that come with the proof tools build it on any machine: `serve.sh build LIBRARY PROGRAM`. */
+   compiler and linker that come with the proof tools build it by themselves: `serve.sh build LIBRARY PROGRAM`. */
 
 typedef __SIZE_TYPE__ size_t;
 typedef __UINT8_TYPE__ uint8_t;

@@ -1,15 +1,14 @@
 #!/usr/bin/env bash
 # Builds and runs serve.c, the program through which the comparison drivers ask the proved static library.
 #   serve.sh build LIBRARY.a PROGRAM    link serve.c with the library
-#   serve.sh run PROGRAM                run it: on x86-64 as it is, elsewhere in the emulator of the proof tools
-# The compiler, the linker and the emulator are those that come with the proof tools (`rt`).
+#   serve.sh run PROGRAM                run it
+# The compiler and the linker are those that come with the proof tools (`rt`).
 set -eu
 
 here=$(cd "$(dirname "$0")" && pwd)
 rt=$(command -v rt) || { echo "serve.sh: rt is not on the path" >&2; exit 2; }
-kit=${RATTLE_HOME:-$(cd "$(dirname "$(readlink -f "$rt")")/.." && pwd)}
-tools=$kit/on/$(uname -m)/toolchain/bin
-[ -x "$tools/clang" ] || { echo "serve.sh: the proof tools at $kit have no compiler for this machine" >&2; exit 2; }
+tools=$(cd "$(dirname "$(readlink -f "$rt")")/.." && pwd)/toolchain/bin
+[ -x "$tools/clang" ] || { echo "serve.sh: the proof tools have no compiler at $tools" >&2; exit 2; }
 
 case ${1-} in
 build)
@@ -23,8 +22,7 @@ build)
     ;;
 run)
     [ $# -eq 2 ] || { echo "usage: serve.sh run PROGRAM" >&2; exit 2; }
-    if [ "$(uname -m)" = x86_64 ]; then exec "$2"; fi
-    exec "$tools/qemu-x86_64" "$2"
+    exec "$2"
     ;;
 *)
     echo "usage: serve.sh build LIBRARY.a PROGRAM | serve.sh run PROGRAM" >&2
