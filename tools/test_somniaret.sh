@@ -69,21 +69,30 @@ fi
 
 # The rest in a copy of the command, with an rt that only says what the proof tools would and a report program that prints what it reads.
 copy=$room/copy
-mkdir -p "$copy/tools" "$copy/crates" "$room/fake"
-cp somniaret crates.txt "$copy/"
+mkdir -p "$copy/tools" "$copy"/crates/report/{src,specs,proofs} "$room/fake"
+cp somniaret "$copy/"
+printf '# four crates\nlaws:\nreport: form io\nform: laws # the form\ndesk staticlib: form\n' >"$copy/crates.txt"
 printf '#!/bin/sh\nexec "$@"\n' >"$copy/tools/run.sh"
 cat >"$room/fake/rt" <<'FAKE'
 #!/usr/bin/env bash
-# Says that each crate of the file `said` is proved, and leaves the report program; where the file `refused` is there it says so and fails.
-while IFS= read -r line; do echo "rt: $line"; done <said
-if [ -e refused ]; then
-    echo "rt: report was refused"
+# As `rt run` in crates/report: says that each crate of the file `said` is proved, and leaves the report program; where the file `refused` is there it
+# says so and fails.
+[ "$(basename "$PWD") $*" = "report run" ] || exit 3
+while IFS= read -r name; do
+    echo "rt: chose --jobs 2 for $name"
+    echo "fn $name::call: proved"
+    echo "library laws: modules loaded=2 checked=0"
+    echo "crate $name: modules loaded=1 checked=2"
+    echo "logic=proved functions=1 sum=0"
+done <../../said >&2
+if [ -e ../../refused ]; then
+    echo "rt: report was refused" >&2
     exit 1
 fi
-mkdir -p target/bin target/stamp
-printf '#!/bin/sh\nexec cat\n' >target/bin/report
-chmod +x target/bin/report
-touch target/stamp/report
+mkdir -p out
+printf '#!/bin/sh\nexec cat\n' >out/report
+chmod +x out/report
+echo "refused 17 at 0"
 FAKE
 chmod +x "$copy/tools/run.sh" "$room/fake/rt"
 copied() { PATH=$room/fake:$PATH "$copy/somniaret" "$@"; }
@@ -102,25 +111,28 @@ done
 printf 'refused 16 at 7\nand more\n' >"$room/said.form"
 try "no refusal alone" 0 $'refused 16 at 7\nand more\n' "" copied "$room/said.form"
 
-# Progress: as many crates as rt itself proves for the report; on a terminal alone.
-all=$(rt check report </dev/null | sed -n 's/^rt: ok, \([0-9]*\) crates proved$/\1/p')
+# What was built is built again where a source is newer, and only then.
+try "a source that is newer" 0 $'refused 16 at 7\nand more\n' "building the report program" sh -c 'touch "$1/crates/report/src" && PATH=$2:$PATH "$1/somniaret" "$3"' newer "$copy" "$room/fake" "$room/said.form"
+try "none that is" 0 $'refused 16 at 7\nand more\n' "" copied "$room/said.form"
+
+# Progress: the crates that the report needs, in the order in which rt proves them; on a terminal alone.
 echo "refused 20 at 0" >"$room/said.form"
-printf 'laws proved (unchanged since it was last proved)\nform proved (5 s)\nreport proved (1 min 5 s)\n' >"$copy/said"
-rm -rf "$copy/target"
+printf 'form\nreport\n' >"$copy/said"
+rm -rf "$copy/crates/report/out"
 try "building, on no terminal" 0 $'refused 20 at 0\n' "building the report program" copied "$room/said.form"
-rm -rf "$copy/target"
+rm -rf "$copy/crates/report/out"
 copied "$room/said.form" >/dev/null 2>"$room/quiet" </dev/null
 try "quiet on no terminal" 0 "2" "" sh -c 'printf %d "$(wc -l <"$1")"' lines "$room/quiet"
 if command -v script >/dev/null; then
-    rm -rf "$copy/target"
+    rm -rf "$copy/crates/report/out"
     PATH=$room/fake:$PATH script -qec "'$copy/somniaret' '$room/said.form'" "$room/typescript" >/dev/null </dev/null
-    tr -d '\r' <"$room/typescript" | grep '^somniaret: [0-9]' >"$room/told"
-    told="somniaret: 2 of ${all:-no} crates proved: form (5 s)"$'\n'"somniaret: 3 of ${all:-no} crates proved: report (1 min 5 s)"$'\n'
+    tr -d '\r' <"$room/typescript" | sed -nE 's/^(somniaret: [0-9].*\()[0-9]+( s\))$/\1N\2/p' >"$room/told"
+    told=$'somniaret: 2 of 3 crates proved: form (N s)\nsomniaret: 3 of 3 crates proved: report (N s)\n'
     try "crate by crate on a terminal" 0 "$told" "" cat "$room/told"
 else
     echo "script is not there: progress on a terminal is not tried"
 fi
-rm -rf "$copy/target"
+rm -rf "$copy/crates/report/out"
 : >"$copy/refused"
 try "a build that fails" 1 "" "the report program was not built" copied "$room/said.form"
 try "why it fails" 1 "" "rt: report was refused" copied "$room/said.form"
