@@ -7,8 +7,7 @@
 #   crate.File, crate.File.name                      in crates/CRATE/specs, or else in crates/CRATE/proofs
 #   crate/label                                      crates/CRATE/must-fail/LABEL.edit
 #   a path that begins with a folder of the tree     a file or folder
-#   some_name                                        a word of the code; a must-fail edit is not named without its crate
-#   someName, SomeName, some-name                    a word of the code or of its specs
+#   some_name, SomeName                              a word of the code, its specs or its proofs; a must-fail edit is not named without its crate
 #   crate `x`, crates `x`, `y` and `z`               crates of crates.txt
 #   check_docs.sh [FOLDER]    the tree; without it this one
 set -u
@@ -29,7 +28,7 @@ check() {
     if "$@"; then good; else bad "$message"; fi
 }
 
-crates=$(sed 's/#.*//' crates.txt | sed -n 's/^\([a-z_0-9]*\):.*/\1/p')
+crates=$(sed 's/#.*//' crates.txt | sed -n 's/^\([a-z_0-9]*\)\( [^:]*\)\?:.*/\1/p')
 is_crate() { grep -qx -- "$1" <<<"$crates"; }
 # Whether a name stands by itself in some of the files: has_name NAME FILE..
 has_name() {
@@ -64,15 +63,16 @@ spec_file() {
     echo "$found"
 }
 declares() { grep -qE "\b(fn|struct|enum|const) $2\b" crates/"$1"/src/*.rt; }
-words=$({ ls compare/src/bin && cat crates/*/src/*.rt include/* compare/*.c compare/src/*.rs; } | grep -oE '[a-z][a-z0-9]*(_[a-z0-9]+)+' | sort -u)
-identifiers=$({ find crates -name '*.rt' -o -name '*.antt' | xargs cat && cat include/* compare/*.c compare/src/*.rs; } | grep -oE '[A-Za-z][A-Za-z0-9_-]*' | sort -u)
-labels=$(find crates -path '*/must-fail/*.edit' -printf '%f\n' | sed 's/\.edit$//' | sort -u)
+# Rattle's files and its specs and proofs, without what rt makes in a crate's out/.
+sources() { find crates/*/src crates/*/specs crates/*/proofs -name '*.rt' -o -name '*.antt'; }
+identifiers=$({ ls compare/src/bin | sed 's/\.rs$//' && sources | xargs cat && cat include/* compare/*.c compare/src/*.rs; } | grep -oE '[A-Za-z][A-Za-z0-9_-]*' | sort -u)
+labels=$(find crates/*/must-fail -name '*.edit' -printf '%f\n' | sed 's/\.edit$//' | sort -u)
 
 # One name of a document.
 named() {
     local doc=$1 name=$2 crate file rest
     case $name in
-    *CRATE* | *FILE* | *LABEL* | *NAME* | target/* | compare/target/*) return ;;
+    *CRATE* | *FILE* | *LABEL* | *NAME* | crates/*/out | crates/*/out/* | compare/target/*) return ;;
     crates/* | docs/* | tools/* | examples/* | include/* | compare/* | .ci/*)
         check "$doc: $name is not there" test -e "${name%% *}"
         return
@@ -99,7 +99,7 @@ named() {
     elif [[ $name =~ ^[A-Z][A-Za-z]*\.[A-Za-z][^\ ]*$ ]] && [[ ! $name =~ \.(md|toml)$ ]]; then
         bad "$doc: $name is named without its crate"
     elif [[ $name =~ ^[a-z][a-z0-9]*(_[a-z0-9]+)+$ ]]; then
-        if is_crate "$name" || grep -qx -- "$name" <<<"$words"; then
+        if is_crate "$name" || grep -qx -- "$name" <<<"$identifiers"; then
             good
         elif grep -qx -- "$name" <<<"$labels"; then
             bad "$doc: the must-fail edit $name is named without its crate"
@@ -146,7 +146,7 @@ while IFS=$'\t' read -r call part text; do
     missing) bad "$promises: the section of $call has no '$text'" ;;
     *)
         whole=$(contract "$call")
-        if [[ $whole == *"⌜ $text ⌝"* || $whole == *"($text)"* ]]; then good; else bad "$promises: the contract of $call has not the clause $text"; fi
+        if [[ $whole == *"{ $text }"* || $whole == *"($text)"* ]]; then good; else bad "$promises: the contract of $call has not the clause $text"; fi
         ;;
     esac
 done < <(awk '
@@ -184,7 +184,11 @@ for file in $trusted; do
     while read -r crate dotted; do
         read -r other rest < <(spec_file "$crate" "$dotted")
         check "$file is trusted and rests on ${other:-$crate.$dotted}, which is not" is_trusted "$other"
-    done < <(sed -nE 's/^use Rattle·([a-z_0-9]+)(·specs)?\.specs\.([A-Z][A-Za-z.]*).*/\1 \3/p' "$file" | sed 's/\.$//' | sort -u)
+    done < <(sed -nE '/^(pub )?use Rattle\.(std|core)\./d; s/^(pub )?use Rattle\.([a-z_0-9]+)\.(specs|proofs)\.([A-Za-z.]*).*/\2 \4/p' "$file" | sed 's/\.$//' | grep -v ' declared\.' | sort -u)
+    # declared has the types of a crate's source
+    while IFS= read -r crate; do
+        check "$file is trusted and rests on types of crates/$crate/src/lib.rt, which is not" grep -qE "^\| \`crates/$crate/src/lib\.rt\`" "$promises"
+    done < <(sed -nE 's/^(pub )?use Rattle\.([a-z_0-9]+)\.specs\.declared\..*/\2/p' "$file" | sort -u)
 done
 # A public call's contract cites trusted files alone, unless its section says of what it cites that it is 'no trusted file'. Its section has the call in its heading,
 # or, where the heading says 'between crates', as the first cell of a table's row.
@@ -210,14 +214,15 @@ for file in crates/*/src/*.rt; do
                     bad "$promises: the contract of $crate::$call cites $name of $spec, which is not trusted"
                 fi
             done
-        done < <(sed -nE 's/^ghost use Rattle·([a-z_0-9]+)(·specs)?\.specs\.([A-Z][A-Za-z.]*)\.\{(.*)\};/\1 \3 \4/p' "$file")
+        done < <(tr '\n' ' ' <"$file" | grep -oE 'ghost use Rattle\.[^;]*;' | sed -E 's/[^ ,{]+ as //g' |
+            sed -nE '/Rattle\.(std|core)\./d; s/^ghost use Rattle\.([a-z_0-9]+)\.specs\.([A-Z][A-Za-z.]*)\.\{ *(.*)\};/\1 \2 \3/p')
     done < <(sed -nE 's/^pub (extern "C" )?fn ([a-z_0-9]+).*/\2/p' "$file")
 done
 while IFS= read -r file; do
     if awk '/^--/ { print; next } { exit }' "$file" | grep -q 'Trusted:'; then
         check "$file says that it is trusted and is not in $promises" is_trusted "$file"
     fi
-done < <(find crates -path '*/specs/*.antt' ! -name Lib.antt | sort)
+done < <(find crates/*/specs -name '*.antt' ! -name Lib.antt | sort)
 
 for crate in $crates; do
     check "README.md: the table of crates has no crates/$crate" grep -qE "^\|.*\`crates/$crate\`" README.md
