@@ -4,7 +4,7 @@
 #   sizes.sh --trusted   a row for each trusted file: its lines
 #   sizes.sh --write     puts the first table into docs/ROADMAP.md, between its two marks
 # Lines are without blank ones, comments included. Definitions are the trusted files of specs/ (docs/PROMISES.md lists them), proofs all other files of specs/
-# and of proofs/.
+# and of proofs/: lemmas, and of each function its Invariants, Answers or Proof.
 set -eu
 cd "$(dirname "$0")/.."
 
@@ -24,13 +24,13 @@ by_crate() {
     local crate functions public code definitions proofs edits sums=(0 0 0 0 0 0) row i
     echo "| Crate | Functions | Public | Code lines | Definition lines | Proof lines | Must-fail edits |"
     echo "|---|---|---|---|---|---|---|"
-    for crate in $(sed 's/#.*//' crates.txt | sed -n 's/^\([a-z_0-9]*\):.*/\1/p'); do
+    for crate in $(sed 's/#.*//' crates.txt | sed -n 's/^\([a-z_0-9]*\)\( [^:]*\)\?:.*/\1/p'); do
         functions=$(files "$crate" src | xargs -r cat | grep -cE '^ *(pub(\(crate\))? )?(extern "C" )?fn ' || true)
         public=$(files "$crate" src | xargs -r cat | grep -cE '^ *pub (extern "C" )?fn ' || true)
         code=$(files "$crate" src | lines)
         definitions=$(files "$crate" specs | { grep -xF "$trusted" || true; } | lines)
         proofs=$(files "$crate" specs proofs | { grep -vxF "$trusted" || true; } | lines)
-        edits=$(find "crates/$crate" -path '*/must-fail/*.edit' | wc -l)
+        edits=$(find "crates/$crate/must-fail" -name '*.edit' 2>/dev/null | wc -l)
         row=("$functions" "$public" "$code" "$definitions" "$proofs" "$edits")
         for i in "${!row[@]}"; do sums[i]=$((sums[i] + row[i])); done
         echo "| \`$crate\` | ${row[0]} | ${row[1]} | ${row[2]} | ${row[3]} | ${row[4]} | ${row[5]} |"
