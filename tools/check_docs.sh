@@ -179,7 +179,7 @@ for file in $trusted; do
         bad "$promises: the trusted file $file is not there"
         continue
     fi
-    proof=$(grep -nE '^[^-]*\b(refl|omega|subst|cc|simp|rw|search|absurd|axiom)\b' "$file" | grep -v '^[0-9]*: *--' | head -n 1)
+    proof=$(grep -nE '^[^-]*\b(refl|omega|subst|cc|simp|rw|search|grind|induction|absurd|axiom)\b' "$file" | grep -v '^[0-9]*: *--' | head -n 1)
     check "$file is trusted and proves something: $proof" test -z "$proof"
     while read -r crate dotted; do
         read -r other rest < <(spec_file "$crate" "$dotted")
