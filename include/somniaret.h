@@ -16,7 +16,7 @@
    exceptions. Without a refusal the bytes past those that the call is said to write are as they were.
 
    The calls are reentrant. They use no static memory, reserve none and ask nothing of the operating system, so any number
-   of threads may call at the same time, each with its own buffers. A call needs at most 200 KiB of stack.
+   of threads may call at the same time, each with its own buffers. A call needs at most 176 KiB of stack.
 
    Refusals
 

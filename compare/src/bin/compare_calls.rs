@@ -23,7 +23,7 @@ use by_listing::served::{Call, Question};
 const INPUTS: u64 = 50_000;
 
 /// What `somniaret.h` says that a call needs at most.
-const STATED_STACK: u64 = 200 << 10;
+const STATED_STACK: u64 = 176 << 10;
 
 fn main() -> ExitCode {
     let calls = [Call::Verdict, Call::Rewrite, Call::Conflicts, Call::Walk, Call::Sweep, Call::SweepTable];

@@ -280,10 +280,7 @@ fn effects_by(
     let fall = t.fall;
     let constant = t.constant;
     let marks = marks_of(effects, groups, &jump, &fall, &constant);
-    let on = marks.on;
-    let by_jump = marks.jump;
-    let by_fall = marks.fall;
-    effect_rows(&owned, &on, &by_jump, &by_fall)
+    effect_rows(&owned, &marks.on, &marks.jump, &marks.fall)
 }
 
 // For each test, the tests on its variable: `groups` has those on each variable.

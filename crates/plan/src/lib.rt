@@ -42,29 +42,23 @@ pub fn plan_of(body: form::Body) -> [u64; 1024]
     let local = local_sets::local_of(body);
     let sets = path_sets::sets_of(local);
     let blocks = body.blocks;
-    let targets = sets.targets;
-    let touched = sets.touched;
-    let denied = sets.denied;
-    let jumping = sets.jumping;
-    let falling = sets.falling;
-    let listed = sets.listed;
     let mut plan = [0; 1024];
     let mut b = 0;
     while b < 64 {
         let block = blocks[b];
         let row = [
             test_word(block.ending),
-            targets.jump[b] as u64,
-            targets.fall[b] as u64,
-            touched[b],
-            denied.jump[b],
-            denied.fall[b],
-            jumping.jump[b],
-            jumping.fall[b],
-            falling.jump[b],
-            falling.fall[b],
-            listed.jump[b],
-            listed.fall[b],
+            sets.targets.jump[b] as u64,
+            sets.targets.fall[b] as u64,
+            sets.touched[b],
+            sets.denied.jump[b],
+            sets.denied.fall[b],
+            sets.jumping.jump[b],
+            sets.jumping.fall[b],
+            sets.falling.jump[b],
+            sets.falling.fall[b],
+            sets.listed.jump[b],
+            sets.listed.fall[b],
             block.cost as u64,
             0,
             0,
@@ -120,15 +114,15 @@ pub fn prepare(form: &[u8]) -> Prepared
     ensures { PreparedOf form.now result }
 {
     let reading = reader::read(form);
-    let verdict = reading.verdict;
-    let body = reading.body;
-    match verdict {
+    match reading.verdict {
         Verdict::Refused { number, place } => unprepared(number, place),
         Verdict::Accepted => {
-            let plan = plan_of(body);
-            let counter = body.counter;
-            let count = body.count;
-            with_count(counter::count_of(counter), count, plan)
+            let plan = plan_of(reading.body);
+            with_count(
+                counter::count_of(reading.body.counter),
+                reading.body.count,
+                plan,
+            )
         }
     }
 }

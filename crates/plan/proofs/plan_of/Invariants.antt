@@ -9,14 +9,7 @@ use Rattle.plan.proofs.plan_of.Given as goal
 
 abbrev pub invariant-loop-b : goal.invariant-loop-b
 invariant-loop-b l =
-    Rows (λ c. row_from (record {
-      targets = l.targets;
-      touched = l.touched;
-      denied = l.denied;
-      jumping = l.jumping;
-      falling = l.falling;
-      listed = l.listed;
-    }) (get_or l.blocks c no_block) c) l.b l.plan
+    Rows (λ c. row_from l.sets (get_or l.blocks c no_block) c) l.b l.plan
     × ((l.b ≤ 64) × (length l.plan ≡ 1024))
 
 abbrev pub decreases-loop-b : goal.decreases-loop-b
