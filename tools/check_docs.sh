@@ -1,6 +1,6 @@
 #!/usr/bin/env bash
-# Holds the documents to the tree. In README.md and docs/ (docs/PORT.md aside, which has old names): every call, definition, theorem, must-fail edit, file and crate that is named exists. Of
-# docs/PROMISES.md besides: no table cell is too long; every public call has its promise, and the clause cited stands in the source; its trusted files are those
+# Holds the documents to the tree. In README.md and docs/, but for docs/PORT.md, which has old names: every call, definition, theorem, must-fail edit, file
+# and crate that is named exists. Of docs/PROMISES.md besides: no table cell is too long; every public call has its promise, and the clause cited stands in the source; its trusted files are those
 # that say so of themselves, rest on one another alone and prove nothing. README.md has every crate of crates.txt. The last line is 'N passed, M failed'.
 # Names and how they are told apart:
 #   crate::call, crate::module::call, crate::Type    in crates/CRATE/src
