@@ -1,5 +1,5 @@
 #!/usr/bin/env bash
-# Holds the documents to the tree. In README.md and docs/, but for docs/PORT.md, which has old names: every call, definition, theorem, must-fail edit, file
+# Holds the documents to the tree. In README.md and docs/, but for docs/PORT.md and docs/DESIGN-PASS.md, which have old names: every call, definition, theorem, must-fail edit, file
 # and crate that is named exists. Of docs/PROMISES.md besides: no table cell is too long; every public call has its promise, and the clause cited stands in the source; its trusted files are those
 # that say so of themselves, rest on one another alone and prove nothing. README.md has every crate of crates.txt. The last line is 'N passed, M failed'.
 # Names and how they are told apart:
@@ -112,7 +112,7 @@ named() {
 }
 
 for doc in README.md docs/*.md; do
-    [ "$doc" = docs/PORT.md ] && continue # it names what things were called before
+    case $doc in docs/PORT.md | docs/DESIGN-PASS.md) continue ;; esac # they name what things were called before
     while IFS= read -r name; do named "$doc" "$name"; done < <(grep -oE '`[^`]+`' "$doc" | tr -d '`' | sort -u)
     while IFS= read -r name; do
         check "$doc: there is no crate $name" is_crate "$name"

@@ -1,181 +1,147 @@
 // Bodies put together block by block. A block is told how many effects follow it; the writer sees whether they add up.
 // What finds no place is left out, which the writer sees too.
+// A block's ending is 1, 2 or 3, 0 the end, and an effect's `how` 1 or 0: (a) form::Block's and form::Effect's numbers.
+use counter::Relation;
 use form::{Block, Body, Counter, Effect};
 
+// A relation's sign.
+pub(crate) fn sign(relation: Relation) -> &'static str {
+    match relation {
+        Relation::Equal => "=",
+        Relation::Unequal => "!=",
+        Relation::Less => "<",
+        Relation::AtLeast => ">=",
+        Relation::Greater => ">",
+        Relation::AtMost => "<=",
+    }
+}
+
+// What a test asks: a variable's relation to a constant.
+#[derive(Clone, Copy)]
+pub(crate) struct Condition {
+    pub variable: u8,
+    pub relation: Relation,
+    pub constant: i32,
+}
+
 // A body with its counter and nothing else.
-pub(crate) fn counted(initial: i32, step: i32, relation: u8, limit: i32) -> Body {
-    let counter = Counter {
-        initial,
-        step,
-        relation,
-        limit,
-    };
-    let blocks = [no_block(); 64];
-    let effects = [no_effect(); 256];
+pub(crate) fn counted(initial: i32, step: i32, relation: Relation, limit: i32) -> Body {
     Body {
-        counter,
+        counter: Counter {
+            initial,
+            step,
+            relation: relation as u8,
+            limit,
+        },
         count: 0,
-        blocks,
+        blocks: [Block::default(); 64],
         total: 0,
-        effects,
+        effects: [Effect::default(); 256],
     }
 }
 
-fn no_block() -> Block {
-    Block {
-        cost: 0,
-        ending: 0,
-        jump: 0,
-        fall: 0,
-        variable: 0,
-        relation: 0,
-        constant: 0,
-        effects: 0,
+// A body with one block or one effect more.
+pub(crate) trait Build {
+    fn with_block(self, block: Block) -> Body;
+
+    fn with_effect(self, effect: Effect) -> Body;
+
+    // The body with other counts than it was put together with.
+    fn with_counts(self, count: usize, total: usize) -> Body;
+
+    // The last block.
+    fn end(self, cost: u32) -> Body;
+
+    fn go(self, cost: u32, effects: usize, jump: u8) -> Body;
+
+    // An open branch.
+    fn open(self, cost: u32, effects: usize, jump: u8, fall: u8) -> Body;
+
+    fn test(self, cost: u32, effects: usize, condition: Condition, jump: u8, fall: u8) -> Body;
+
+    // An effect: the variable is this constant.
+    fn set(self, variable: u8, constant: i32) -> Body;
+
+    // An effect: the variable's value is unknown.
+    fn unknown(self, variable: u8) -> Body;
+}
+
+impl Build for Body {
+    fn with_block(mut self, block: Block) -> Body {
+        if self.count < 64 {
+            self.blocks[self.count] = block;
+            self.count += 1;
+        }
+        self
     }
-}
 
-fn no_effect() -> Effect {
-    Effect {
-        variable: 0,
-        how: 0,
-        constant: 0,
+    fn with_effect(mut self, effect: Effect) -> Body {
+        if self.total < 256 {
+            self.effects[self.total] = effect;
+            self.total += 1;
+        }
+        self
     }
-}
 
-fn with_block(body: Body, block: Block) -> Body {
-    let count = body.count;
-    if count >= 64 {
-        return body;
+    fn with_counts(mut self, count: usize, total: usize) -> Body {
+        self.count = count;
+        self.total = total;
+        self
     }
-    let counter = body.counter;
-    let effects = body.effects;
-    let mut blocks = body.blocks;
-    blocks[count] = block;
-    Body {
-        counter,
-        count: count + 1,
-        blocks,
-        total: body.total,
-        effects,
+
+    fn end(self, cost: u32) -> Body {
+        self.with_block(Block {
+            cost,
+            ..Block::default()
+        })
     }
-}
 
-fn with_effect(body: Body, effect: Effect) -> Body {
-    let total = body.total;
-    if total >= 256 {
-        return body;
+    fn go(self, cost: u32, effects: usize, jump: u8) -> Body {
+        self.with_block(Block {
+            cost,
+            ending: 1,
+            jump,
+            effects,
+            ..Block::default()
+        })
     }
-    let counter = body.counter;
-    let blocks = body.blocks;
-    let mut effects = body.effects;
-    effects[total] = effect;
-    Body {
-        counter,
-        count: body.count,
-        blocks,
-        total: total + 1,
-        effects,
+
+    fn open(self, cost: u32, effects: usize, jump: u8, fall: u8) -> Body {
+        self.with_block(Block {
+            cost,
+            ending: 2,
+            jump,
+            fall,
+            effects,
+            ..Block::default()
+        })
     }
-}
 
-// The body with other counts than it was put together with.
-pub(crate) fn with_counts(body: Body, count: usize, total: usize) -> Body {
-    let counter = body.counter;
-    let blocks = body.blocks;
-    let effects = body.effects;
-    Body {
-        counter,
-        count,
-        blocks,
-        total,
-        effects,
+    fn test(self, cost: u32, effects: usize, condition: Condition, jump: u8, fall: u8) -> Body {
+        self.with_block(Block {
+            cost,
+            ending: 3,
+            jump,
+            fall,
+            variable: condition.variable,
+            relation: condition.relation as u8,
+            constant: condition.constant,
+            effects,
+        })
     }
-}
 
-// The last block.
-pub(crate) fn end(body: Body, cost: u32) -> Body {
-    let block = Block {
-        cost,
-        ending: 0,
-        jump: 0,
-        fall: 0,
-        variable: 0,
-        relation: 0,
-        constant: 0,
-        effects: 0,
-    };
-    with_block(body, block)
-}
+    fn set(self, variable: u8, constant: i32) -> Body {
+        self.with_effect(Effect {
+            variable,
+            how: 1,
+            constant,
+        })
+    }
 
-pub(crate) fn go(body: Body, cost: u32, effects: usize, jump: u8) -> Body {
-    let block = Block {
-        cost,
-        ending: 1,
-        jump,
-        fall: 0,
-        variable: 0,
-        relation: 0,
-        constant: 0,
-        effects,
-    };
-    with_block(body, block)
-}
-
-// An open branch.
-pub(crate) fn open(body: Body, cost: u32, effects: usize, jump: u8, fall: u8) -> Body {
-    let block = Block {
-        cost,
-        ending: 2,
-        jump,
-        fall,
-        variable: 0,
-        relation: 0,
-        constant: 0,
-        effects,
-    };
-    with_block(body, block)
-}
-
-// A test of variable 0 or another.
-pub(crate) fn test(
-    body: Body,
-    cost: u32,
-    effects: usize,
-    variable: u8,
-    relation: u8,
-    constant: i32,
-    jump: u8,
-    fall: u8,
-) -> Body {
-    let block = Block {
-        cost,
-        ending: 3,
-        jump,
-        fall,
-        variable,
-        relation,
-        constant,
-        effects,
-    };
-    with_block(body, block)
-}
-
-// An effect: the variable is this constant.
-pub(crate) fn set(body: Body, variable: u8, constant: i32) -> Body {
-    let effect = Effect {
-        variable,
-        how: 1,
-        constant,
-    };
-    with_effect(body, effect)
-}
-
-// An effect: the variable's value is unknown.
-pub(crate) fn unknown(body: Body, variable: u8) -> Body {
-    let effect = Effect {
-        variable,
-        how: 0,
-        constant: 0,
-    };
-    with_effect(body, effect)
+    fn unknown(self, variable: u8) -> Body {
+        self.with_effect(Effect {
+            variable,
+            ..Effect::default()
+        })
+    }
 }

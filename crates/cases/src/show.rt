@@ -1,232 +1,192 @@
 // What is printed of a case: every number of every answer, so that a wrong one changes the text.
+ghost use Rattle.std.specs.Prelude.{OnOk, IfOk};
 ghost use Rattle.io.specs.Counts.{IsPrefixLen};
 
-use counter::Counted;
-use form::Written;
-use listing::Listed;
-use sweep_steps::SweepAnswer;
-use walk::WalkAnswer;
+use crate::bodies::{Condition, sign};
+use counter::Relation;
+use form::{Body, Refusal};
+use plan::Totals;
+use std::io;
+use sweep_steps::Routed;
+use walk::Walked;
 
-pub(crate) fn say(text: &[u8]) {
-    io::write_all(1, text);
+pub(crate) fn say(rt: &impl Print, text: &str) -> io::Result<()> {
+    println!(rt; "{text}")
 }
 
-fn number(n: u64) {
-    io::print_decimal(1, n);
-}
-
-// A word and a number.
-fn value(word: &[u8], n: u64) {
-    say(word);
-    number(n);
-}
-
-fn byte(b: u8) {
-    number(b as u64);
-}
-
-fn refusal(n: u32, place: usize) {
-    value(b" refused ", n as u64);
-    value(b" at ", place as u64);
-    say(b"\n");
-}
-
-// The numbers between two entries of five bytes stand apart.
-fn gap(i: usize) {
-    if i > 0 && i % 5 == 0 {
-        say(b";");
+// The conflict list's bytes as numbers, its entries of five apart.
+fn entries(rt: &impl Print, bytes: &[u8]) -> io::Result<()> {
+    for (i, byte) in bytes.iter().enumerate() {
+        if i > 0 && i % 5 == 0 {
+            print!(rt; ";")?;
+        }
+        print!(rt; " {byte}")?;
     }
-    say(b" ");
+    println!(rt; "")
 }
 
-// Bytes as numbers, in entries of five.
-fn entries(bytes: &[u8]) {
-    let mut i = 0;
-    while i < bytes.len() {
-        gap(i);
-        byte(bytes[i]);
-        i += 1;
-    }
-    say(b"\n");
-}
-
-// The bytes of a route from a place on, up to its last block; the place behind it.
-fn route(bytes: [u8; 128], from: usize) -> usize {
-    let mut i = from;
-    while i < 128 {
-        let way = bytes[i];
-        say(b" ");
-        byte(way);
-        i += 1;
-        if way == 3 {
+// A route's bytes, up to its last block, whose byte is 3.
+fn route(rt: &impl Print, bytes: &[u8]) -> io::Result<()> {
+    for way in bytes {
+        print!(rt; " {way}")?;
+        if *way == 3 {
             break;
         }
     }
-    i
+    Ok(())
 }
 
-fn routes(bytes: [u8; 128]) {
-    say(b", routes");
-    let second = route(bytes, 0);
-    say(b" and");
-    route(bytes, second);
-    say(b"\n");
+// Both routes' bytes, the second behind the last block of the first.
+fn routes(rt: &impl Print, bytes: &[u8; 128]) -> io::Result<()> {
+    print!(rt; ", routes")?;
+    route(rt, bytes)?;
+    print!(rt; " and")?;
+    if let Some(last) = bytes.iter().position(|way| *way == 3) {
+        route(rt, &bytes[last + 1..])?;
+    }
+    println!(rt; "")
 }
 
-pub(crate) fn count(name: &[u8], initial: i32, step: i32, relation: u8, limit: i32) {
-    say(name);
-    match counter::count(initial, step, relation, limit) {
-        Counted::Iterations(k) => {
-            value(b" ", k);
-            say(b"\n");
-        }
-        Counted::Refused { number, place } => refusal(number, place),
+pub(crate) fn count(
+    rt: &impl Print,
+    initial: i32,
+    step: i32,
+    relation: Relation,
+    limit: i32,
+) -> io::Result<()> {
+    print!(rt; "count {initial}, {step}, {}, {limit}: ", sign(relation))?;
+    match counter::count(initial, step, relation as u8, limit) {
+        Ok(iterations) => println!(rt; "{iterations}"),
+        Err(refusal) => println!(rt; "{refusal}"),
     }
 }
 
-pub(crate) fn pair(name: &[u8], relation1: u8, constant1: i32, relation2: u8, constant2: i32) {
-    say(name);
-    if pair::conflicting(relation1, constant1, relation2, constant2) {
-        say(b" conflict\n");
-    } else {
-        say(b" no conflict\n");
-    }
+// Two conditions on one variable x.
+pub(crate) fn pair(rt: &impl Print, one: Condition, other: Condition) -> io::Result<()> {
+    let conflict = pair::conflicting(
+        one.relation as u8,
+        one.constant,
+        other.relation as u8,
+        other.constant,
+    );
+    let says = if conflict { "conflict" } else { "no conflict" };
+    println!(rt;
+        "x {} {} with x {} {}: {says}",
+        sign(one.relation),
+        one.constant,
+        sign(other.relation),
+        other.constant
+    )
 }
 
-pub(crate) fn list(form: &[u8]) {
-    say(b"  list:");
+pub(crate) fn list(rt: &impl Print, form: &[u8]) -> io::Result<()> {
     let mut out = [0u8; 64];
+    print!(rt; "  list:")?;
     match listing::conflicts(form, &mut out) {
-        Listed::Bytes(n) => entries(&out[..n]),
-        Listed::Refused { number, place } => refusal(number, place),
+        Ok(n) => entries(rt, &out[..n]),
+        Err(refusal) => println!(rt; " {refusal}"),
     }
 }
 
-fn numbers(iterations: u64, weight: u64, bound: u64, least: u64, least_total: u64) {
-    value(b" iterations ", iterations);
-    value(b", weight ", weight);
-    value(b", bound ", bound);
-    value(b", least ", least);
-    value(b", least total ", least_total);
+// The numbers that both ways answer, one of a way's own by its name, and both routes.
+fn found(
+    rt: &impl Print,
+    totals: Totals,
+    name: &str,
+    own: u64,
+    bytes: &[u8; 128],
+) -> io::Result<()> {
+    print!(rt;
+        "iterations {}, weight {}, bound {}, least {}, least total {}, {name} {own}",
+        totals.iterations, totals.weight, totals.bound, totals.least, totals.least_total
+    )?;
+    routes(rt, bytes)
 }
 
-fn swept(answer: SweepAnswer, bytes: [u8; 128]) {
-    say(b"  sweep:");
+fn swept(rt: &impl Print, answer: Result<Routed, Refusal>, bytes: &[u8; 128]) -> io::Result<()> {
+    print!(rt; "  sweep: ")?;
     match answer {
-        SweepAnswer::Routed {
-            iterations,
-            weight,
-            bound,
-            least,
-            least_total,
-            kept,
-        } => {
-            numbers(iterations, weight, bound, least, least_total);
-            value(b", kept ", kept);
-            routes(bytes);
-        }
-        SweepAnswer::Refused { number, place } => refusal(number, place),
+        Ok(routed) => found(rt, routed.totals, "kept", routed.kept, bytes),
+        Err(refusal) => println!(rt; "{refusal}"),
     }
 }
 
-fn walked(answer: WalkAnswer, budget: u32, bytes: [u8; 128]) {
-    value(b"  walk, budget ", budget as u64);
-    say(b":");
+fn walked(
+    rt: &impl Print,
+    budget: u32,
+    answer: Result<Walked, Refusal>,
+    bytes: &[u8; 128],
+) -> io::Result<()> {
+    print!(rt; "  walk, budget {budget}: ")?;
     match answer {
-        WalkAnswer::Walked {
-            iterations,
-            weight,
-            bound,
-            least,
-            least_total,
-            walked,
-        } => {
-            numbers(iterations, weight, bound, least, least_total);
-            value(b", walked ", walked);
-            routes(bytes);
-        }
-        WalkAnswer::Refused { number, place } => refusal(number, place),
+        Ok(walked) => found(rt, walked.totals, "walked", walked.walked, bytes),
+        Err(refusal) => println!(rt; "{refusal}"),
     }
 }
 
-pub(crate) fn sweep(form: &[u8]) {
+pub(crate) fn sweep(rt: &impl Print, form: &[u8]) -> io::Result<()> {
     let mut bytes = [0u8; 128];
-    swept(sweep::sweep_own(form, &mut bytes), bytes);
+    let answer = sweep::sweep_own(form, &mut bytes);
+    swept(rt, answer, &bytes)
 }
 
-pub(crate) fn walk(form: &[u8], budget: u32) {
+pub(crate) fn walk(rt: &impl Print, form: &[u8], budget: u32) -> io::Result<()> {
     let mut bytes = [0u8; 128];
-    walked(walk::walk(form, budget, &mut bytes), budget, bytes);
+    let answer = walk::walk(form, budget, &mut bytes);
+    walked(rt, budget, answer, &bytes)
 }
 
 // The body's form, laid out in the lent bytes; how many bytes it has, or none where the writer refuses.
-pub(crate) fn form(body: form::Body, out: &mut [u8; 3665]) -> usize
-    ensures { IsPrefixLen result out.new }
+pub(crate) fn form(rt: &impl Print, body: Body, out: &mut [u8]) -> io::Result<usize>
+    ensures { IfOk result (λ n. IsPrefixLen n out.new) }
 {
-    say(b"  form:");
     match writer::write(body, out) {
-        Written::Bytes(n) => {
-            value(b" ", n as u64);
-            say(b" bytes\n");
-            n
+        Ok(n) => {
+            println!(rt; "  form: {n} bytes")?;
+            Ok(n)
         }
-        Written::Refused { number, place } => {
-            refusal(number, place);
-            0
+        Err(refusal) => {
+            println!(rt; "  form: {refusal}")?;
+            Ok(0)
         }
     }
+}
+
+fn written_in(rt: &impl Print, name: &str, body: Body, out: &mut [u8]) -> io::Result<()> {
+    say(rt, name)?;
+    form(rt, body, out)?;
+    Ok(())
 }
 
 // A case of the writer, lent enough bytes.
-pub(crate) fn written(name: &[u8], body: form::Body) {
-    say(name);
-    let mut out = [0u8; 3665];
-    form(body, &mut out);
-}
-
-// What the writer answers.
-fn answered(written: Written) {
-    match written {
-        Written::Bytes(n) => {
-            value(b" ", n as u64);
-            say(b" bytes\n");
-        }
-        Written::Refused { number, place } => refusal(number, place),
-    }
+pub(crate) fn written(rt: &impl Print, name: &str, body: Body) -> io::Result<()> {
+    written_in(rt, name, body, &mut [0; 3665])
 }
 
 // A case of the writer, lent 172 bytes.
-pub(crate) fn written_short(name: &[u8], body: form::Body) {
-    say(name);
-    say(b"  form:");
-    let mut out = [0u8; 172];
-    answered(writer::write(body, &mut out));
+pub(crate) fn written_short(rt: &impl Print, name: &str, body: Body) -> io::Result<()> {
+    written_in(rt, name, body, &mut [0; 172])
 }
 
 // A case: what is said of it, its form, list, sweep and walk.
-pub(crate) fn body(name: &[u8], body: form::Body) {
-    say(name);
+pub(crate) fn body(rt: &impl Print, name: &str, body: Body) -> io::Result<()> {
+    say(rt, name)?;
     let mut out = [0u8; 3665];
-    let n = form(body, &mut out);
-    list(&out[..n]);
-    sweep(&out[..n]);
-    walk(&out[..n], 100000);
+    let n = form(rt, body, &mut out)?;
+    list(rt, &out[..n])?;
+    sweep(rt, &out[..n])?;
+    walk(rt, &out[..n], 100000)
 }
 
 // A case of both ways, lent 15 bytes for the routes.
-pub(crate) fn short(name: &[u8], body: form::Body) {
-    say(name);
+pub(crate) fn short(rt: &impl Print, name: &str, body: Body) -> io::Result<()> {
+    say(rt, name)?;
     let mut out = [0u8; 3665];
-    let n = form(body, &mut out);
-    let mut swept_bytes = [0u8; 128];
-    swept(
-        sweep::sweep_own(&out[..n], &mut swept_bytes[..15]),
-        swept_bytes,
-    );
-    let mut walked_bytes = [0u8; 128];
-    walked(
-        walk::walk(&out[..n], 13, &mut walked_bytes[..15]),
-        13,
-        walked_bytes,
-    );
+    let n = form(rt, body, &mut out)?;
+    let mut bytes = [0u8; 128];
+    let answer = sweep::sweep_own(&out[..n], &mut bytes[..15]);
+    swept(rt, answer, &bytes)?;
+    let mut bytes = [0u8; 128];
+    let answer = walk::walk(&out[..n], 13, &mut bytes[..15]);
+    walked(rt, 13, answer, &bytes)
 }

@@ -1,9 +1,9 @@
 -- What the counter owes for four numbers, in document 01's numbers, and what each of its answers says in them. Trusted:
--- definitions only. Rests on form's Counter.
-use Rattle.std.specs.Prelude.{◌≡◌, ℕ, ◌<◌, ◌≤◌, ℤ}
+-- definitions only. Rests on form's Counter and Said.
+use Rattle.std.specs.Prelude.{◌≡◌, ℕ, ◌<◌, ◌≤◌, ℤ, Result, Ok, Err}
+use Rattle.form.specs.declared.Refusal.{Refusal}
 use Rattle.form.specs.Counter.{Count}
-use Rattle.counter.specs.declared.Counted.{Counted}
-use Rattle.counter.specs.declared.Counted.TheVariants.{Iterations, Refused}
+use Rattle.form.specs.Said.{number_of}
 
 -- the refusal's number and place, and the loop count; what an answer does not have is zero
 pub record Values : Type 0 where
@@ -18,9 +18,9 @@ abbrev pub refusal : (number place : ℕ) → Values
 refusal number place = record { number = number; place = place; iterations = 0 }
 
 -- what each case of the answer says
-abbrev pub said : Counted → Values
-said (Iterations k) = count k
-said (Refused number place) = refusal number place
+abbrev pub said : Result ℕ Refusal → Values
+said (Ok k) = count k
+said (Err r) = refusal (number_of r.fault) r.place
 
 -- a relation above 5 is refused with 15 at place 0; else the answer is the count, or 20 at place 0 where no count
 -- exists

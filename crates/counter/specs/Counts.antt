@@ -1,12 +1,12 @@
 -- The counts of document 01, 'The trainer's cases', as one table under one claim: for each question the one answer
 -- that is owed. The largest stands among them. Rests on Uniqueness.
-use Rattle.std.specs.Prelude.{◌≡◌, refl, List, [], ◌∷◌, ℕ, ◌≤◌, ℤ, pos, negsuc}
+use Rattle.std.specs.Prelude.{◌≡◌, refl, List, [], ◌∷◌, ℕ, ◌≤◌, ℤ, pos, negsuc, Result}
 use Rattle.std.proofs.Common.{ap, ◌∙◌, arith, SFits}
 use Rattle.std.specs.Int.{w32}
 use Rattle.std.proofs.Math.Facts.{sfits_lit}
+use Rattle.form.specs.declared.Refusal.{Refusal}
 use Rattle.lower_laws.specs.Steps.{later, first, within}
 use Rattle.lower_laws.specs.Loops.{count_of}
-use Rattle.counter.specs.declared.Counted.{Counted}
 use Rattle.counter.specs.Answer.{said, Owed}
 use Rattle.counter.specs.Uniqueness.{answer_of, decided}
 
@@ -37,12 +37,12 @@ questions =
 
 abbrev pub Claimed : List Question → Type 0
 Claimed [] = Unit {0}
-Claimed (q ∷ rest) = ((a : Counted) → Owed q.initial q.step q.relation q.limit (said a)
+Claimed (q ∷ rest) = ((a : Result ℕ Refusal) → Owed q.initial q.step q.relation q.limit (said a)
     → a ≡ answer_of q.count) × Claimed rest
 
 by_computing : (q : Question) → SFits w32 q.initial → q.relation ≤ 5
     → count_of q.initial q.step q.relation q.limit ≡ q.count
-    → (a : Counted) → Owed q.initial q.step q.relation q.limit (said a) → a ≡ answer_of q.count
+    → (a : Result ℕ Refusal) → Owed q.initial q.step q.relation q.limit (said a) → a ≡ answer_of q.count
 by_computing q fits known e a o = decided q.initial q.step q.relation q.limit fits known a o ∙ ap answer_of e
 
 pub all_counted : Claimed questions

@@ -1,21 +1,22 @@
 -- What is owed leaves one answer. For each of the three cases of document 01 the values that the answer then has;
 -- that any two answers to one question are the same, for each public call; which one it is; and the count's range.
 -- Rests on Answer and on lower_laws' Loops.
-use Rattle.std.specs.Prelude.{◌≡◌, refl, Bool, ℕ, zero, suc, ◌<◌, ◌≤◌, ℤ}
+use Rattle.std.specs.Prelude.{◌≡◌, refl, Bool, ℕ, zero, suc, ◌<◌, ◌≤◌, ℤ, Result, Ok, Err}
 use Rattle.std.proofs.Common.{sym, ap, ◌∙◌, arith, SFits}
 use Rattle.std.specs.Int.{w32}
 use Rattle.form.specs.Relation.{meets}
+use Rattle.form.specs.declared.Refusal.{Refusal}
+use Rattle.form.specs.declared.Fault.TheVariants.{NoCount}
 use Rattle.form.specs.Counter.{Count}
+use Rattle.form.specs.Refusals.{one_number}
 use Rattle.lower_laws.specs.Steps.{Found}
 use Rattle.lower_laws.specs.Loops.{count_of, count_once, count_found, count_few}
-use Rattle.counter.specs.declared.Counted.{Counted}
-use Rattle.counter.specs.declared.Counted.TheVariants.{Iterations, Refused}
 use Rattle.counter.specs.Answer.{Values, count, refusal, said, Owed, no_relation, no_count, counted}
 
 -- the answer that the closed form gives: a case of document 01 is decided by computing it
-abbrev pub answer_of : ℕ → Counted
-answer_of zero = Refused 20 0
-answer_of (suc k) = Iterations (suc k)
+abbrev pub answer_of : ℕ → Result ℕ Refusal
+answer_of zero = Err (record { fault = NoCount; place = 0 })
+answer_of (suc k) = Ok (suc k)
 
 module _ (initial step : ℤ) (relation : ℕ) (limit : ℤ) where
   too_high : 5 < relation → relation ≤ 5 → ⊥
@@ -60,23 +61,25 @@ module _ (initial step : ℤ) (relation : ℕ) (limit : ℤ) where
   mixed : (k number place : ℕ) → count k ≡ refusal number place → Owed initial step relation limit (count k) → ⊥
   mixed k number place e o = omega (arith, at_least_one k o, ap (λ (v : Values). v.iterations) e)
 
-  same : (a b : Counted) → said a ≡ said b → Owed initial step relation limit (said a)
+  same : (a b : Result ℕ Refusal) → said a ≡ said b → Owed initial step relation limit (said a)
       → Owed initial step relation limit (said b) → a ≡ b
-  same (Iterations k) (Iterations l) e o p = ap Iterations (ap (λ (v : Values). v.iterations) e)
-  same (Iterations k) (Refused number place) e o p = absurd (mixed k number place e o)
-  same (Refused number place) (Iterations k) e o p = absurd (mixed k number place (sym e) p)
-  same (Refused number place) (Refused m q) e o p = λ i. Refused (e i).number (e i).place
+  same (Ok k) (Ok l) e o p = ap Ok (ap (λ (v : Values). v.iterations) e)
+  same (Ok k) (Err r) e o p = absurd (mixed k _ r.place e o)
+  same (Err r) (Ok k) e o p = absurd (mixed k _ r.place (sym e) p)
+  same (Err r) (Err s) e o p =
+      let faults = one_number r.fault s.fault (ap (λ (v : Values). v.number) e) in
+      λ i. Err (record { fault = faults i; place = (e i).place })
 
-  pub one_count : (a b : Counted) → Owed initial step relation limit (said a)
+  pub one_count : (a b : Result ℕ Refusal) → Owed initial step relation limit (said a)
       → Owed initial step relation limit (said b) → a ≡ b
   one_count a b o p = same a b (owed_once (said a) (said b) o p) o p
 
-  owes : relation ≤ 5 → (n : ℕ) → Found (Count initial step relation limit) n
+  pub owes : relation ≤ 5 → (n : ℕ) → Found (Count initial step relation limit) n
       → Owed initial step relation limit (said (answer_of n))
   owes l zero w = no_count l w refl
   owes l (suc k) w = counted l (suc k) w refl
 
-  pub decided : SFits w32 initial → relation ≤ 5 → (a : Counted) → Owed initial step relation limit (said a)
+  pub decided : SFits w32 initial → relation ≤ 5 → (a : Result ℕ Refusal) → Owed initial step relation limit (said a)
       → a ≡ answer_of (count_of initial step relation limit)
   decided fits l a o =
       one_count a (answer_of (count_of initial step relation limit)) o

@@ -2,37 +2,87 @@
 // on at 64, where a difference of two, a negation and one more step still fit.
 #![tactic(auto)]
 
-ghost use Rattle.std.specs.Prelude.{◌≡◌, ◌/◌, ◌%◌, ◌<◌, eqb, pos, neg_ℤ, ◌-ℤ◌};
+ghost use Rattle.std.specs.Prelude.{◌≡◌, ◌/◌, ◌<◌, MatchResult};
 ghost use Rattle.laws.specs.Whole.{up, dn};
 ghost use Rattle.form.specs.Relation.{meets};
 ghost use Rattle.lower_laws.specs.Relations.{mirrored};
-ghost use Rattle.lower_laws.specs.Steps.{later, first, within};
+ghost use Rattle.lower_laws.specs.Steps.{first, within};
 ghost use Rattle.lower_laws.specs.Loops.{count_of};
+ghost use Rattle.counter.specs.Relations.{code, nonzero, IsNoRelation};
 ghost use Rattle.counter.specs.Answer.{Owed, said};
 
-// What the counter answers: the count, or the refusal's number and place.
-#[derive(Clone, Copy)]
-pub enum Counted {
-    Iterations(u64),
-    Refused { number: u32, place: usize },
+use form::{Counter, Fault, Refusal};
+
+// The six relations, in the order of their numbers.
+#[derive(Clone, Copy, Debug, PartialEq, Eq)]
+pub enum Relation {
+    Equal,
+    Unequal,
+    Less,
+    AtLeast,
+    Greater,
+    AtMost,
 }
 
-fn wide(x: i32) -> i64
-    ensures { result ≡ x }
-{
-    x as i64
+impl TryFrom<u8> for Relation {
+    type Error = Refusal;
+
+    ghost try_from_gives = { λ number r. MatchResult r (λ relation. code relation ≡ number)
+        (IsNoRelation number) };
+
+    fn try_from(number: u8) -> Result<Relation, Refusal> {
+        match number {
+            0 => Ok(Relation::Equal),
+            1 => Ok(Relation::Unequal),
+            2 => Ok(Relation::Less),
+            3 => Ok(Relation::AtLeast),
+            4 => Ok(Relation::Greater),
+            5 => Ok(Relation::AtMost),
+            _ => Err(Refusal {
+                fault: Fault::BadField,
+                place: 0,
+            }),
+        }
+    }
 }
 
-fn difference(a: i32, b: i32) -> i64
-    ensures { result ≡ a -ℤ b }
-{
-    wide(a) - wide(b)
+impl Relation {
+    // Whether the value meets the relation to the constant.
+    fn meets(self, value: i64, constant: i64) -> bool
+        ensures { result ≡ meets (code self) value constant }
+    {
+        match self {
+            Relation::Equal => value == constant,
+            Relation::Unequal => value != constant,
+            Relation::Less => value < constant,
+            Relation::AtLeast => value >= constant,
+            Relation::Greater => value > constant,
+            Relation::AtMost => value <= constant,
+        }
+    }
+
+    // The relation of -a to -b where a has this relation to b.
+    fn mirrored(self) -> Relation
+        ensures { code result ≡ mirrored (code self) }
+    {
+        match self {
+            Relation::Equal | Relation::Unequal => self,
+            Relation::Less => Relation::Greater,
+            Relation::AtLeast => Relation::AtMost,
+            Relation::Greater => Relation::Less,
+            Relation::AtMost => Relation::AtLeast,
+        }
+    }
 }
 
-fn negated(x: i32) -> i64
-    ensures { result ≡ neg_ℤ x }
+// Whether the value meets the relation with this number to the constant: nothing meets a number above 5.
+pub fn meets(relation: u8, value: i64, constant: i64) -> bool
+    ensures { result ≡ meets relation value constant }
 {
-    -wide(x)
+    match Relation::try_from(relation) {
+        Ok(relation) => relation.meets(value, constant),
+        Err(_) => false,
+    }
 }
 
 // How often b goes into a, where a is not negative and b is positive.
@@ -43,178 +93,82 @@ fn quotient(a: i64, b: i64) -> u64
     (a / b) as u64
 }
 
-// Whether b divides a, where a is not negative and b is positive.
-fn divides(a: i64, b: i64) -> bool
-    requires { (dn a ≡ 0) × (0 < up b) }
-    ensures { result ≡ eqb (up a % up b) 0 }
-{
-    a % b == 0
-}
-
-// Whether the value meets the relation to the constant.
-pub fn meets(relation: u8, value: i64, constant: i64) -> bool
-    ensures { result ≡ meets relation value constant }
-{
-    match relation {
-        0 => value == constant,
-        1 => value != constant,
-        2 => value < constant,
-        3 => value >= constant,
-        4 => value > constant,
-        5 => value <= constant,
-        _ => false,
-    }
-}
-
-// The relation of -a to -b where a has this relation to b.
-fn mirrored(relation: u8) -> u8
-    ensures { result ≡ mirrored relation }
-{
-    match relation {
-        0 => 0,
-        1 => 1,
-        2 => 4,
-        3 => 5,
-        4 => 2,
-        5 => 3,
-        _ => relation,
-    }
-}
-
-// The steps up from 0 to exactly the gap, or 0 where they pass it by.
-fn exactly(step: i64, gap: i64) -> u64
+// The first step up from 0 after which the relation to the gap fails.
+#[tactic(auto, unfolding(lower_laws::specs::Steps::first, lower_laws::specs::Steps::later))]
+fn first(step: i64, relation: Relation, gap: i64) -> Option<u64>
     requires { 0 < up step }
-    ensures { result ≡ later (up step) 1 gap }
+    ensures { result ≡ nonzero (first (up step) (code relation) gap) }
 {
-    if gap <= 0 {
-        return 0;
-    }
-    if divides(gap, step) {
-        quotient(gap, step)
-    } else {
-        0
-    }
-}
-
-// The first step up from 0 that is not below the gap.
-fn not_below(step: i64, gap: i64) -> u64
-    requires { (0 < up step) × (0 < up gap) }
-    ensures { result ≡ later (up step) 2 gap }
-{
-    quotient(gap - 1, step) + 1
-}
-
-// The first step up from 0 that is above the gap.
-fn above(step: i64, gap: i64) -> u64
-    requires { (0 < up step) × (0 < up gap) }
-    ensures { result ≡ later (up step) 5 gap }
-{
-    quotient(gap, step) + 1
-}
-
-// The first step up from 0 after which the relation to the gap fails, or 0 where it never fails.
-fn first(step: i64, relation: u8, gap: i64) -> u64
-    requires { 0 < up step }
-    ensures { result ≡ first (up step) relation gap }
-{
-    if !meets(relation, step, gap) {
-        return 1;
+    if !relation.meets(step, gap) {
+        return Some(1);
     }
     match relation {
-        0 => 2,
-        1 => exactly(step, gap),
-        2 => not_below(step, gap),
-        5 => above(step, gap),
-        _ => 0,
+        Relation::Equal => Some(2),
+        Relation::Unequal => (gap > 0 && gap % step == 0).then(|| quotient(gap, step)),
+        Relation::Less => Some(quotient(gap - 1, step) + 1),
+        Relation::AtMost => Some(quotient(gap, step) + 1),
+        Relation::AtLeast | Relation::Greater => None,
     }
 }
 
-// The same where so many steps stay within the room, else 0.
-fn within(step: i64, relation: u8, gap: i64, room: i64) -> u64
+// The same where so many steps stay within the room.
+#[tactic(auto, unfolding(lower_laws::specs::Steps::within))]
+fn within(step: i64, relation: Relation, gap: i64, room: i64) -> Option<u64>
     requires { (0 < up step) × (dn room ≡ 0) }
-    ensures { result ≡ within (up step) relation gap (up room) }
+    ensures { result ≡ nonzero (within (up step) (code relation) gap (up room)) }
 {
-    let k = first(step, relation, gap);
-    if k <= quotient(room, step) { k } else { 0 }
+    first(step, relation, gap).filter(|&k| k <= quotient(room, step))
 }
 
-// The count where the step is positive, or 0 where there is none: the room ends at the greatest i32.
-fn upward(initial: i32, step: i32, relation: u8, limit: i32) -> u64
-    requires { 0 < up step }
-    ensures { result ≡ count_of initial step relation limit }
+// The count of a counter with this relation: with a step up the room ends at the greatest i32, with a step down, which
+// is one up in the mirror, at the least.
+#[tactic(auto, unfolding(lower_laws::specs::Loops::count_of))]
+fn passes(counter: Counter, relation: Relation) -> Option<u64>
+    ensures { result ≡ nonzero (count_of counter.initial counter.step (code relation) counter.limit) }
 {
-    within(
-        wide(step),
-        relation,
-        difference(limit, initial),
-        difference(2147483647, initial),
-    )
-}
-
-// The count where the step is negative, or 0: upward in the mirror, where the room ends at the least i32.
-fn downward(initial: i32, step: i32, relation: u8, limit: i32) -> u64
-    requires { 0 < dn step }
-    ensures { result ≡ count_of initial step relation limit }
-{
-    within(
-        negated(step),
-        mirrored(relation),
-        difference(initial, limit),
-        difference(initial, -2147483648),
-    )
-}
-
-// The count where the step is 0, or 0: the relation fails at once or never.
-fn still(initial: i32, relation: u8, limit: i32) -> u64
-    ensures { result ≡ count_of initial (pos 0) relation limit }
-{
-    let endless = meets(relation, wide(initial), wide(limit));
-    if endless { 0 } else { 1 }
-}
-
-// The count, or 0 where there is none.
-fn passes(initial: i32, step: i32, relation: u8, limit: i32) -> u64
-    ensures { result ≡ count_of initial step relation limit }
-{
+    let initial = i64::from(counter.initial);
+    let step = i64::from(counter.step);
+    let limit = i64::from(counter.limit);
     if step > 0 {
-        upward(initial, step, relation, limit)
+        within(
+            step,
+            relation,
+            limit - initial,
+            i64::from(i32::MAX) - initial,
+        )
     } else if step < 0 {
-        downward(initial, step, relation, limit)
+        within(
+            -step,
+            relation.mirrored(),
+            initial - limit,
+            initial - i64::from(i32::MIN),
+        )
+    } else if relation.meets(initial, limit) {
+        None
     } else {
-        still(initial, relation, limit)
-    }
-}
-
-// The count of a loop, asked with four numbers.
-#[tactic(auto, using(crate::specs::Answer::no_relation))]
-pub fn count(initial: i32, step: i32, relation: u8, limit: i32) -> Counted
-    ensures { Owed initial step relation limit (said result) }
-{
-    if relation > 5 {
-        return Counted::Refused {
-            number: 15,
-            place: 0,
-        };
-    }
-    let k = passes(initial, step, relation, limit);
-    if k == 0 {
-        Counted::Refused {
-            number: 20,
-            place: 0,
-        }
-    } else {
-        Counted::Iterations(k)
+        Some(1)
     }
 }
 
 // The count of a body's counter.
-pub fn count_of(counter: form::Counter) -> Counted
+pub fn count_of(counter: Counter) -> Result<u64, Refusal>
     ensures { Owed counter.initial counter.step counter.relation counter.limit (said result) }
 {
-    count(
-        counter.initial,
-        counter.step,
-        counter.relation,
-        counter.limit,
-    )
+    let relation = Relation::try_from(counter.relation)?;
+    passes(counter, relation).ok_or(Refusal {
+        fault: Fault::NoCount,
+        place: 0,
+    })
+}
+
+// The count of a loop, asked with four numbers.
+pub fn count(initial: i32, step: i32, relation: u8, limit: i32) -> Result<u64, Refusal>
+    ensures { Owed initial step relation limit (said result) }
+{
+    count_of(Counter {
+        initial,
+        step,
+        relation,
+        limit,
+    })
 }

@@ -12,7 +12,8 @@ ghost use Rattle.listing.specs.Answer.{listing, held_after};
 ghost use Rattle.counter.specs.Answer.{Owed};
 ghost use Rattle.walk.specs.Answer.{WalkOwed};
 ghost use Rattle.sweep_steps.specs.Answer.{SweepOwed};
-ghost use Rattle.numbers.specs.Answer.{count_values, walk_values, swept_outcome, OwnSweepOwed, list_numbers, verdict_answer, rewrite_answer, rewrite_held};
+ghost use Rattle.numbers.specs.Answer.{verdict_answer, rewrite_answer, rewrite_held, list_numbers};
+ghost use Rattle.numbers.specs.Answer.{count_values, walk_values, swept_outcome, OwnSweepOwed};
 
 use entries::Entry;
 use numbers::{CountAnswer, FormAnswer, ListNumbers, SweepNumbers, WalkNumbers};
@@ -22,7 +23,7 @@ use numbers::{CountAnswer, FormAnswer, ListNumbers, SweepNumbers, WalkNumbers};
 pub extern "C" fn somniaret_count(initial: i32, step: i32, relation: u8, limit: i32) -> CountAnswer
     ensures { Owed initial step relation limit (count_values result) }
 {
-    numbers::of_counted(counter::count(initial, step, relation, limit))
+    counter::count(initial, step, relation, limit).into()
 }
 
 // The reader's verdict on any bytes: 10 to 19 with its place, or 0.
@@ -30,7 +31,7 @@ pub extern "C" fn somniaret_count(initial: i32, step: i32, relation: u8, limit: 
 pub extern "C" fn somniaret_verdict(bytes: &[u8]) -> FormAnswer
     ensures { result ≡ verdict_answer (judge bytes.now) }
 {
-    numbers::of_verdict(verdict::judge(bytes))
+    verdict::judge(bytes).into()
 }
 
 // A form read and its body written back: the bytes written as the place, or the reader's or the writer's refusal.
@@ -39,13 +40,10 @@ pub extern "C" fn somniaret_rewrite(bytes: &[u8], out: &mut [u8]) -> FormAnswer
     ensures { (result ≡ rewrite_answer bytes.now (length out.old)) ×
         (out.new ≡ rewrite_held bytes.now out.old) }
 {
-    let reading = reader::read(bytes);
-    let verdict = reading.verdict;
-    if !verdict::accepts(verdict) {
-        return numbers::of_verdict(verdict);
+    match reader::read(bytes) {
+        Ok(body) => writer::write(body, out).into(),
+        Err(refusal) => refusal.into(),
     }
-    let body = reading.body;
-    numbers::of_written(writer::write(body, out))
 }
 
 // Whether two conditions on one variable conflict: 1, or 0 where some whole number meets both.
@@ -53,11 +51,7 @@ pub extern "C" fn somniaret_rewrite(bytes: &[u8], out: &mut [u8]) -> FormAnswer
 pub extern "C" fn somniaret_pair(relation1: u8, constant1: i32, relation2: u8, constant2: i32) -> u8
     ensures { result ≡ digit (conflicting relation1 constant1 relation2 constant2) }
 {
-    if pair::conflicting(relation1, constant1, relation2, constant2) {
-        1
-    } else {
-        0
-    }
+    u8::from(pair::conflicting(relation1, constant1, relation2, constant2))
 }
 
 // The conflict list of a form, 5 bytes an entry, in the lent bytes; or a refusal, which changes none.
@@ -67,7 +61,7 @@ pub extern "C" fn somniaret_conflicts(bytes: &[u8], out: &mut [u8]) -> ListNumbe
         (out.new ≡ held_after (listing bytes.now (length out.old))
         (conflict_bytes (body_of bytes.now)) out.old) }
 {
-    numbers::of_listed(listing::conflicts(bytes, out))
+    listing::conflicts(bytes, out).into()
 }
 
 // The full walk of a form with a budget: its numbers, and both routes' bytes in the lent ones; or a refusal, which
@@ -76,7 +70,7 @@ pub extern "C" fn somniaret_conflicts(bytes: &[u8], out: &mut [u8]) -> ListNumbe
 pub extern "C" fn somniaret_walk(bytes: &[u8], budget: u32, route: &mut [u8]) -> WalkNumbers
     ensures { WalkOwed bytes.now budget route.old (walk_values result, route.new) }
 {
-    numbers::of_walk(walk::walk(bytes, budget, route))
+    walk::walk(bytes, budget, route).into()
 }
 
 // The sweep of a form over a lent table of entries: its numbers, the rows in the table, and both routes' bytes in the
@@ -90,8 +84,7 @@ pub extern "C" fn somniaret_sweep_table(
     ensures { SweepOwed bytes.now route.old table.old
         (swept_outcome result route.new table.new) }
 {
-    let answer = sweep::sweep(bytes, table, route);
-    numbers::of_sweep(answer)
+    sweep::sweep(bytes, table, route).into()
 }
 
 // The same over a table of its own, as large as the report program's: 1,024 entries.
@@ -99,5 +92,5 @@ pub extern "C" fn somniaret_sweep_table(
 pub extern "C" fn somniaret_sweep(bytes: &[u8], route: &mut [u8]) -> SweepNumbers
     ensures { OwnSweepOwed bytes.now route.old result route.new }
 {
-    numbers::of_sweep(sweep::sweep_own(bytes, route))
+    sweep::sweep_own(bytes, route).into()
 }

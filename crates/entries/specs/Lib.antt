@@ -1,3 +1,3 @@
--- Entries in a row: as flat words and put in (Entries), as structs (Structs).
-pub mod Entries
+-- Entries as the code has them and as the theory has them (Structs), and rows of them (Entries).
 pub mod Structs
+pub mod Entries

@@ -2,28 +2,23 @@
 // whatever bytes it was read from. What each function means is in form's Form.
 #![tactic(auto)]
 
-ghost use Rattle.std.specs.Prelude.{◌≡◌, ◌+◌, ◌<◌, ◌^◌, pos};
+ghost use Rattle.std.specs.Prelude.{◌≡◌, ◌+◌, ◌<◌, ◌^◌};
 ghost use Rattle.form.specs.Form.{stray, some_target, bad_counter, bad_block, bad_effect, low_target, bad_end, far_target};
-ghost use Rattle.form.specs.Relation.{eq_z};
 
 use form::{Block, Counter, Effect};
 
+// A field that endings (or hows) below `first` do not use, and that is not zero there.
 fn is_stray(first: u8, ending: u8, zero: bool) -> bool
     ensures { result ≡ stray first ending zero }
 {
-    (ending < first) & !zero
+    ending < first && !zero
 }
 
+// A used target for which the test holds.
 fn some_target(ending: u8, jump: bool, fall: bool) -> bool
     ensures { result ≡ some_target ending jump fall }
 {
-    ((0 < ending) & jump) | ((1 < ending) & fall)
-}
-
-fn is_zero(z: i32) -> bool
-    ensures { result ≡ eq_z z (pos 0) }
-{
-    z == 0
+    0 < ending && jump || 1 < ending && fall
 }
 
 // 15: a field out of range, or unused and not zero.
@@ -36,30 +31,26 @@ pub fn bad_counter(c: Counter) -> bool
 pub fn bad_block(k: Block) -> bool
     ensures { result ≡ bad_block k }
 {
-    let ending = k.ending;
-    let range = (1000000 < k.cost) | ((3 < ending) | ((15 < k.variable) | (5 < k.relation)));
-    let jump = is_stray(1, ending, k.jump == 0);
-    let fall = is_stray(2, ending, k.fall == 0);
-    let variable = is_stray(3, ending, k.variable == 0);
-    let relation = is_stray(3, ending, k.relation == 0);
-    let constant = is_stray(3, ending, is_zero(k.constant));
-    range | ((jump | fall) | (variable | (relation | constant)))
+    let out_of_range = 1000000 < k.cost || 3 < k.ending || 15 < k.variable || 5 < k.relation;
+    out_of_range
+        || is_stray(1, k.ending, k.jump == 0)
+        || is_stray(2, k.ending, k.fall == 0)
+        || is_stray(3, k.ending, k.variable == 0)
+        || is_stray(3, k.ending, k.relation == 0)
+        || is_stray(3, k.ending, k.constant == 0)
 }
 
 pub fn bad_effect(e: Effect) -> bool
     ensures { result ≡ bad_effect e }
 {
-    let constant = is_stray(1, e.how, is_zero(e.constant));
-    (15 < e.variable) | ((1 < e.how) | constant)
+    15 < e.variable || 1 < e.how || is_stray(1, e.how, e.constant == 0)
 }
 
 // 16: a used target not above its block, number b.
 pub fn low_target(k: Block, b: usize) -> bool
     ensures { result ≡ low_target k b }
 {
-    let jump = k.jump as usize;
-    let fall = k.fall as usize;
-    some_target(k.ending, jump <= b, fall <= b)
+    some_target(k.ending, usize::from(k.jump) <= b, usize::from(k.fall) <= b)
 }
 
 // 18: block b of n ends and is not the last, or is the last and does not end.
@@ -67,15 +58,13 @@ pub fn bad_end(k: Block, n: usize, b: usize) -> bool
     requires { b + 1 < 2 ^ 64 }
     ensures { result ≡ bad_end k n b }
 {
-    let next = b + 1;
-    ((next < n) & (k.ending == 0)) | ((n <= next) & (0 < k.ending))
+    let is_last = n <= b + 1;
+    is_last != (k.ending == 0)
 }
 
 // 19: a used target beyond the last block of n.
 pub fn far_target(k: Block, n: usize) -> bool
     ensures { result ≡ far_target k n }
 {
-    let jump = k.jump as usize;
-    let fall = k.fall as usize;
-    some_target(k.ending, n <= jump, n <= fall)
+    some_target(k.ending, n <= usize::from(k.jump), n <= usize::from(k.fall))
 }

@@ -1,12 +1,9 @@
--- The answers of the reader and the writer. Trusted: for each answer that is an enum, document 01's number and values
--- for each of its cases, and what each call answers. A refusal's number is as tabled; 0 stands for none. Rests on Form.
-use Rattle.std.specs.Prelude.{Bool, true, false, List, ◌++◌, ◌≡◌, ℕ, ltb, length, drop}
+-- The answers of the reader and the writer. Trusted: document 01's number and values for each case of an answer, and
+-- what each call answers. A refusal's number is as tabled; 0 stands for none. Rests on Said and Form.
+use Rattle.std.specs.Prelude.{Bool, true, false, List, ◌++◌, ◌≡◌, ℕ, ltb, length, drop, Result, Ok, Err}
 use Rattle.form.specs.declared.Body.{Body}
-use Rattle.form.specs.declared.Reading.{Reading}
-use Rattle.form.specs.declared.Verdict.{Verdict}
-use Rattle.form.specs.declared.Verdict.TheVariants.{Accepted, Refused}
-use Rattle.form.specs.declared.Written.{Written}
-use Rattle.form.specs.declared.Written.TheVariants.{Bytes, Refused as Unwritten}
+use Rattle.form.specs.declared.Refusal.{Refusal}
+use Rattle.form.specs.Said.{Reading, Verdict, Accepted, Refused, Written, Bytes, Unwritten, number_of as fault_number}
 use Rattle.form.specs.Form.{when, judge, body_of, zero_body, lay, counts_fit}
 
 -- ---- the reader
@@ -37,6 +34,11 @@ Judged s verdict = (verdict ≡ judge s) × (said verdict ≡ said (judge s))
 -- The reader: the verdict, with the body of an accepted form, and zeros beside a refusal
 abbrev pub reading : List ℕ → Reading
 reading s = record { verdict = judge s; body = when (accepted (judge s)) (body_of s) zero_body }
+
+-- What the code's answer says: the body of an accepted form, and zeros beside a refusal
+abbrev pub reading_of : Result Body Refusal → Reading
+reading_of (Ok body) = record { verdict = Accepted; body = body }
+reading_of (Err r) = record { verdict = Refused (fault_number r.fault) r.place; body = zero_body }
 
 -- What reading owes: the case with its body, and the case's numbers
 abbrev pub ReadAs : List ℕ → Reading → Type 0

@@ -1,16 +1,14 @@
 -- The order form of document 01. Trusted: what judging any bytes answers, what body an accepted form is, and what bytes
 -- a body is laid out as. A form is the list of its bytes. Offsets stand where a record is read (counter_at, block_at,
--- effect_at) and in the order in which it is laid out. Rests on numbers, lists and Relation's eq_z.
+-- effect_at) and in the order in which it is laid out. Rests on numbers, lists, Said and Relation's eq_z.
 use Rattle.std.specs.Prelude.{Bool, true, false, ◌||◌, ◌&&◌, not, List, [], ◌∷◌, ◌++◌, ℕ, zero, suc, ◌+◌, ◌-◌, ◌*◌, ◌/◌, ◌%◌, ltb, leb, eqb, ℤ, pos, length, get_or, take, drop}
 use Rattle.std.specs.Int.{w32}
 use Rattle.std.proofs.Common.{to_z, of_z}
-use Rattle.form.specs.declared.Kind.{Kind}
+use Rattle.form.specs.Said.{Kind, Verdict, Accepted, Refused}
 use Rattle.form.specs.declared.Counter.{Counter}
 use Rattle.form.specs.declared.Block.{Block}
 use Rattle.form.specs.declared.Effect.{Effect}
 use Rattle.form.specs.declared.Body.{Body}
-use Rattle.form.specs.declared.Verdict.{Verdict}
-use Rattle.form.specs.declared.Verdict.TheVariants.{Accepted, Refused}
 use Rattle.form.specs.Relation.{eq_z}
 
 -- The first where the test holds, else the second.

@@ -4,9 +4,7 @@ use mathlib.Core.Bool.{Bool, true, false}
 use Rattle.std.specs.Prelude.{List, [], ◌∷◌, ◌≡◌, refl, ℕ, zero, suc, ◌+◌, ◌≤◌, ◌<◌, ltb, eqb, length}
 use Rattle.std.proofs.Common.{ap, sym, ◌∙◌, arith, lit<, lit≤}
 use borrow.Author.Tests.{lt-ltb, le-ltb, ltb-true, ltb-false, ne_eqb, eq-eqb}
-use Rattle.form.specs.declared.Kind.{Kind}
-use Rattle.form.specs.declared.Verdict.{Verdict}
-use Rattle.form.specs.declared.Verdict.TheVariants.{Refused}
+use Rattle.form.specs.Said.{Kind, Verdict, Refused}
 use Rattle.form.specs.Form.{when, kind_number, unknown, counter_role, block_role, effect_role, kind_of, kind_at}
 use Rattle.form.specs.Form.{is_block, is_effect, one_if, judged, starts_for, records_from, record_fault, end_fault}
 use Rattle.form.specs.Form.{judge_ends, judge_records, own_effects}

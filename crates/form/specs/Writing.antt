@@ -4,10 +4,7 @@ use Rattle.std.specs.Prelude.{Bool, true, false, List, ◌≡◌, refl, ℕ, ◌
 use Rattle.std.proofs.Common.{true≢false, ap, sym, ◌∙◌, lt-ltb, le-ltb}
 use Rattle.std.proofs.lemmas.Bool.{false≢true}
 use Rattle.form.specs.declared.Body.{Body}
-use Rattle.form.specs.declared.Verdict.{Verdict}
-use Rattle.form.specs.declared.Verdict.TheVariants.{Accepted, Refused}
-use Rattle.form.specs.declared.Written.{Written}
-use Rattle.form.specs.declared.Written.TheVariants.{Bytes, Refused as Unwritten}
+use Rattle.form.specs.Said.{Verdict, Accepted, Refused, Written, Bytes, Unwritten}
 use Rattle.form.specs.Form.{when, judge, lay, counts_fit}
 use Rattle.form.specs.Answer.{said, accepted, Judged, as_judged, said_written, written, held_after, Wrote}
 

@@ -1,18 +1,74 @@
-// The order form of document 01: the structs of a body, by value, and the cases of the reader's and the writer's
-// answers. No function: the reader is the crate reader, the writer the crate writer. What each record means, and what
-// is answered, is in specs/.
+// The order form of document 01: the structs of a body, by value, the kinds of its records, and why something is
+// refused. No function but those that are derived, a reason's number and a refusal's text: the reader is the crate
+// reader, the writer the crate writer. What each record means, and what is answered, is in specs/.
 #![tactic(auto)]
 
-// A kind of record: the length of its records, and what they are: 0 nothing that the form knows, 1 the counter, 2 a
-// block, 3 an effect.
-#[derive(Clone, Copy)]
-pub struct Kind {
-    pub length: u32,
-    pub role: u32,
+use std::fmt;
+
+// Why something is refused, each case with its number in the table of refusals.
+#[derive(Clone, Copy, Debug, PartialEq, Eq)]
+pub enum Fault {
+    CutShort = 10,
+    WrongLength = 11,
+    UnknownKind = 12,
+    Misplaced = 13,
+    OverLimit = 14,
+    BadField = 15,
+    LowTarget = 16,
+    NoBlock = 17,
+    BadEnd = 18,
+    FarTarget = 19,
+    NoCount = 20,
+    Crowded = 40,
+    OverBudget = 41,
+    ShortRoom = 42,
+    NoRoute = 43,
+    ShortTable = 44,
 }
 
+impl From<Fault> for u64 {
+    ghost use Rattle.std.specs.Prelude.{◌≡◌};
+    ghost use Rattle.form.specs.Said.{number_of};
+
+    ghost from_gives = { λ fault number. number ≡ number_of fault };
+
+    fn from(fault: Fault) -> u64 {
+        fault as u64
+    }
+}
+
+// A refusal: why, and the place that the table of refusals returns with it.
+#[derive(Clone, Copy, Debug, PartialEq, Eq)]
+pub struct Refusal {
+    pub fault: Fault,
+    pub place: usize,
+}
+
+impl fmt::Display for Refusal {
+    ghost use Rattle.std.specs.Prelude.{Some};
+    ghost use Rattle.form.specs.Said.{refusal_text};
+
+    ghost output = { λ refusal. Some (refusal_text refusal) };
+
+    fn fmt<W: fmt::Write>(&self, f: &mut fmt::Formatter<W>) -> fmt::Result {
+        write!(f, "refused {} at {}", u64::from(self.fault), self.place)
+    }
+}
+
+// What a record is, as the table of kinds has it.
+#[derive(Clone, Copy, Debug, PartialEq, Eq)]
+pub enum Kind {
+    Unknown,
+    Counter,
+    Block,
+    Effect,
+}
+
+// Relations, endings and an effect's `how` are numbers here: the writer takes bodies whose numbers are out of range
+// too, and refuses them with 15.
+
 // The counter: what a kind 1 record holds.
-#[derive(Clone, Copy)]
+#[derive(Clone, Copy, Default)]
 pub struct Counter {
     pub initial: i32,
     pub step: i32,
@@ -21,7 +77,7 @@ pub struct Counter {
 }
 
 // A block: what a kind 2 record holds, and the number of effect records that follow it.
-#[derive(Clone, Copy)]
+#[derive(Clone, Copy, Default)]
 pub struct Block {
     pub cost: u32,
     pub ending: u8,
@@ -34,12 +90,17 @@ pub struct Block {
 }
 
 // An effect: what a kind 3 record holds.
-#[derive(Clone, Copy)]
+#[derive(Clone, Copy, Default)]
 pub struct Effect {
     pub variable: u8,
     pub how: u8,
     pub constant: i32,
 }
+
+// The most blocks and effects that a body may have.
+pub const MOST_BLOCKS: usize = 64;
+
+pub const MOST_EFFECTS: usize = 256;
 
 // A loop body: the counter, `count` blocks, and the `total` effects of all blocks in order. What stands past the counts
 // is no part of the body.
@@ -50,25 +111,4 @@ pub struct Body {
     pub blocks: [Block; 64],
     pub total: usize,
     pub effects: [Effect; 256],
-}
-
-// The writer's answer: how many bytes it wrote, or the refusal's number and place.
-#[derive(Clone, Copy)]
-pub enum Written {
-    Bytes(usize),
-    Refused { number: u32, place: usize },
-}
-
-// The reader's answer: on a refusal every number of the body is zero.
-#[derive(Clone, Copy)]
-pub struct Reading {
-    pub verdict: Verdict,
-    pub body: Body,
-}
-
-// What the reader says of bytes: a form, or the refusal's number and place.
-#[derive(Clone, Copy)]
-pub enum Verdict {
-    Accepted,
-    Refused { number: u32, place: usize },
 }

@@ -1,2 +1,3 @@
 -- Bytes put into lent memory behind what stands there.
 pub mod Adding
+pub mod Filled

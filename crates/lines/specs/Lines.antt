@@ -1,9 +1,9 @@
 -- The words of the report's lines, the walk's line, and what the program lends and asks, after document 01, 'The
 -- trainer's cases', and request A1. Trusted: definitions only. A text is a list of ASCII codes. Rests on text's Text
 -- and on the walk's cases.
-use Rattle.std.specs.Prelude.{List, [], ◌∷◌, ℕ, replicate}
-use Rattle.walk.specs.declared.WalkAnswer.{WalkAnswer}
-use Rattle.walk.specs.declared.WalkAnswer.TheVariants.{Walked, Refused}
+use Rattle.std.specs.Prelude.{List, [], ◌∷◌, ℕ, replicate, Result, Ok, Err}
+use Rattle.form.specs.declared.Refusal.{Refusal}
+use Rattle.walk.specs.declared.Walked.{Walked}
 use Rattle.text.specs.Text.{line}
 
 -- ---- the words
@@ -54,10 +54,10 @@ over_line = 119 ∷ 97 ∷ 108 ∷ 107 ∷ 101 ∷ 100 ∷ 32 ∷ 111 ∷ 118 �
 
 -- ---- the walk
 
--- Walked, or `over` when 41: where the sweep answers, the walk refuses by nothing else (report.Promise.only-over).
-abbrev pub walked_line : WalkAnswer → List ℕ
-walked_line (Walked iterations weight bound least least_total walked) = line walked_word walked
-walked_line (Refused number place) = over_line
+-- Walked, or `over` when 41: where the sweep answers, the walk refuses by nothing else (report.Promise.only_over).
+abbrev pub walked_line : Result Walked Refusal → List ℕ
+walked_line (Ok w) = line walked_word w.walked
+walked_line (Err refusal) = over_line
 
 -- The program's lent memory, 128 bytes for both routes, and its walk budget.
 abbrev pub no_routes : List ℕ

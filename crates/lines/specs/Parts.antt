@@ -1,100 +1,80 @@
--- The lines as the functions leave them in the lent bytes, and the body that is read. Rests on Lines, lent's Adding,
+-- The lines as the functions leave them in the lent bytes, and the body that is read. Rests on Lines, lent's Filled,
 -- listing's and walk's Answer and roundtrip's Sound.
-use Rattle.std.specs.Prelude.{Bool, true, false, List, ◌++◌, ◌≡◌, refl, ℕ, ◌+◌, ◌*◌, ◌≤◌, ltb, length}
-use Rattle.std.proofs.Common.{ap, sym, subst, ◌∙◌, arith}
+use Rattle.std.specs.Prelude.{Result, Ok, Err, MatchResult, Bool, true, false, List, ◌++◌, ◌≡◌, refl, ℕ, ◌+◌, ◌*◌, ◌≤◌, ltb, length}
+use Rattle.std.proofs.Common.{ap, sym, ◌∙◌, arith}
 use Rattle.form.specs.declared.Body.{Body}
-use Rattle.form.specs.declared.Reading.{Reading}
-use Rattle.form.specs.declared.Verdict.{Verdict}
-use Rattle.form.specs.declared.Verdict.TheVariants.{Accepted, Refused}
-use Rattle.form.specs.Form.{when, judge, body_of, zero_body}
-use Rattle.form.specs.Answer.{accepted, reading}
+use Rattle.form.specs.declared.Refusal.{Refusal}
+use Rattle.form.specs.Said.{Reading, Verdict, Accepted}
+use Rattle.form.specs.Form.{when, judge, body_of}
+use Rattle.form.specs.Answer.{reading, reading_of}
 use Rattle.form.specs.Conflict.{conflicts, conflict_bytes}
-use Rattle.listing.specs.declared.Listed.{Listed}
-use Rattle.listing.specs.declared.Listed.TheVariants.{Bytes, Refused as Unlisted}
-use Rattle.listing.specs.Answer.{listing, as_judged}
+use Rattle.listing.specs.Answer.{Bytes, Refused as Unlisted, listed_of, listed_in, listing, as_judged}
 use Rattle.list_bytes.specs.Listing.{bytes_length}
 use Rattle.roundtrip.specs.Sound.{sound}
-use Rattle.walk.specs.declared.WalkAnswer.{WalkAnswer}
+use Rattle.plan.specs.declared.Totals.{Totals}
+use Rattle.walk.specs.declared.Walked.{Walked}
 use Rattle.walk.specs.Answer.{WalkOwed, said}
-use Rattle.lent.specs.Adding.{Adds}
+use Rattle.lent.specs.declared.Filled.{Filled}
+use Rattle.lent.specs.Filled.{Grows}
 use Rattle.text.specs.Text.{line, route_line}
 use Rattle.lines.specs.Lines.{blocks_word, iterations_word, conflicts_word, weight_word, bound_word, route_word}
 use Rattle.lines.specs.Lines.{least_word, least_route_word, kept_word, walked_line, no_routes, budget}
 
 -- the walk's line, from an answer that the walk owes
-pub record WalkedAdds (form before : List ℕ) (at : ℕ) (after : List ℕ) (r : ℕ) : Type 0 where
-  pub walk : WalkAnswer
+pub record WalkedAdds (form : List ℕ) (before after : Filled) : Type 0 where
+  pub walk : Result Walked Refusal
   pub held : List ℕ
   pub owed : WalkOwed form budget no_routes (said walk, held)
-  pub adds : Adds before at after r (walked_line walk)
-  pub few : r ≤ at + 28
+  pub grows : Grows before after (walked_line walk)
+  pub few : after.end ≤ before.end + 28
 
 -- the first five lines
-abbrev pub first_five : Body → (blocks iterations weight bound : ℕ) → List ℕ
-first_five body blocks iterations weight bound =
+abbrev pub first_five : Body → (blocks : ℕ) → Totals → List ℕ
+first_five body blocks totals =
     line blocks_word blocks
-    ++ (line iterations_word iterations ++
-    (line conflicts_word (length (conflicts body)) ++ (line weight_word weight ++ line bound_word bound)))
+    ++ (line iterations_word totals.iterations ++ (line conflicts_word (length (conflicts body))
+    ++ (line weight_word totals.weight ++ line bound_word totals.bound)))
 
 -- the last five
-pub record LastAdds (form before : List ℕ) (at : ℕ) (after : List ℕ) (r : ℕ) (route : List ℕ) (least : ℕ)
-    (lightest : List ℕ) (kept : ℕ) : Type 0 where
-  pub walk : WalkAnswer
+abbrev pub last_five : (route : List ℕ) (least : ℕ) (lightest : List ℕ) (kept : ℕ) → Result Walked Refusal → List ℕ
+last_five route least lightest kept walk =
+    route_line route_word route
+    ++ (line least_word least ++ (route_line least_route_word lightest ++ (line kept_word kept ++ walked_line walk)))
+
+-- put in lent bytes, from an answer that the walk owes
+pub record LastAdds (form : List ℕ) (before after : Filled) (route : List ℕ) (least : ℕ) (lightest : List ℕ)
+    (kept : ℕ) : Type 0 where
+  pub walk : Result Walked Refusal
   pub held : List ℕ
   pub owed : WalkOwed form budget no_routes (said walk, held)
-  pub adds : Adds before at after r
-      (route_line route_word route
-      ++ (line least_word least ++ (route_line least_route_word lightest ++ (line kept_word kept ++ walked_line walk))))
-  pub few : r ≤ at + 3000
+  pub grows : Grows before after (last_five route least lightest kept walk)
+  pub few : after.end ≤ before.end + 3000
 
 -- the list of an accepted form, whether there was room for it or not, tells its bytes, five an entry
-needs : (v : Verdict) (short : Bool) (l : ℕ) (r : Listed) → v ≡ Accepted
-    → r ≡ as_judged v (when short (Unlisted 42 l) (Bytes l)) → r ≡ when short (Unlisted 42 l) (Bytes l)
-needs v short l r a e = e ∙ ap (λ (v : Verdict). as_judged v (when short (Unlisted 42 l) (Bytes l))) a
+by_room : (short : Bool) (l bytes : ℕ) (r : Result ℕ Refusal) → listed_of r ≡ when short (Unlisted 42 l) (Bytes l)
+    → MatchResult r (λ n. bytes ≡ n) (λ e. bytes ≡ e.place) → bytes ≡ l
+by_room true l bytes (Ok n) e m = cc
+by_room true l bytes (Err refusal) e m = cc
+by_room false l bytes (Ok n) e m = cc
+by_room false l bytes (Err refusal) e m = cc
 
-by_bytes : (short : Bool) (l n : ℕ) → Bytes n ≡ when short (Unlisted 42 l) (Bytes l) → n ≡ l
-by_bytes true l n e = cc
-by_bytes false l n e = cc
+pub all_bytes : (form : List ℕ) (room bytes : ℕ) (r : Result ℕ Refusal) → judge form ≡ Accepted
+    → listed_of r ≡ listing form room → MatchResult r (λ n. bytes ≡ n) (λ e. bytes ≡ e.place)
+    → bytes ≡ 5 * length (conflicts (body_of form))
+all_bytes form room bytes r a e m =
+    let l = length (conflict_bytes (body_of form)) in
+    by_room (ltb room l) l bytes r (e ∙ ap (λ (v : Verdict). as_judged v (listed_in (body_of form) room)) a) m
+    ∙ bytes_length (body_of form)
 
-by_need : (short : Bool) (l n m : ℕ) → Unlisted m n ≡ when short (Unlisted 42 l) (Bytes l) → n ≡ l
-by_need true l n m e = cc
-by_need false l n m e = cc
-
-module _ (form : List ℕ) (room : ℕ) (a : judge form ≡ Accepted) where
-  abbrev bytes : ℕ
-  bytes = length (conflict_bytes (body_of form))
-
-  pub all_bytes_lem : (n : ℕ) (r : Listed) → r ≡ listing form room → r ≡ Bytes n → n ≡ 5 * length (conflicts (body_of form))
-  all_bytes_lem n r says e =
-      by_bytes (ltb room bytes) bytes n (sym e ∙ needs (judge form) (ltb room bytes) bytes r a says)
-      ∙ bytes_length (body_of form)
-
-  pub all_needed : (m n : ℕ) (r : Listed) → r ≡ listing form room → r ≡ Unlisted m n
-      → n ≡ 5 * length (conflicts (body_of form))
-  all_needed m n r says e =
-      by_need (ltb room bytes) bytes n m (sym e ∙ needs (judge form) (ltb room bytes) bytes r a says)
-      ∙ bytes_length (body_of form)
-
--- the body that is read
-module _ (form : List ℕ) (r : Reading) (e : r ≡ reading form) where
-  pub read_count : judge form ≡ Accepted → r.body.count ≡ (body_of form).count
-  read_count a = ap (λ (r : Reading). r.body.count) e ∙ rw a refl
-
-  pub read_few : r.body.count ≤ 64
-  read_few = rw e (by (judge form) refl)
-    where
-      by : (v : Verdict) → judge form ≡ v → (when (accepted v) (body_of form) zero_body).count ≤ 64
-      by Accepted a = (sound form a).few
-      by (Refused number place) a = omega arith
-
--- the walk's line, of an answer told by its case
-pub walked_shown : (form o p held : List ℕ) (at r : ℕ) (answer shown : WalkAnswer)
-    → WalkOwed form budget no_routes (said answer, held) → answer ≡ shown
-    → Adds o at p r (walked_line shown) → r ≤ at + 28 → WalkedAdds form o at p r
-walked_shown form o p held at r answer shown owed e adds few = record {
-  walk = answer;
-  held = held;
-  owed = owed;
-  adds = subst (λ (x : WalkAnswer). Adds o at p r (walked_line x)) (sym e) adds;
-  few = few;
-}
+-- the body that is read: its blocks, and none where the form is refused
+pub read_blocks : (form : List ℕ) (n : ℕ) (r : Result Body Refusal) → reading_of r ≡ reading form
+    → MatchResult r (λ body. n ≡ body.count) (λ _. n ≡ 0)
+    → (judge form ≡ Accepted → n ≡ (body_of form).count) × (n ≤ 64)
+read_blocks form n (Ok body) e m =
+    let a : judge form ≡ Accepted = sym (ap (λ (x : Reading). x.verdict) e) in
+    let read : body.count ≡ (body_of form).count = ap (λ (x : Reading). x.body.count) e ∙ rw a refl in
+    let few = (sound form a).few in
+    (λ b. m ∙ read, omega (arith, m, read))
+read_blocks form n (Err refusal) e m =
+    let refused = ap (λ (x : Reading). x.verdict) e in
+    (λ b. cc, omega (arith, m))

@@ -4,95 +4,73 @@
 #![tactic(auto)]
 
 ghost use Rattle.std.specs.Prelude.{◌≡◌, ◌+◌, ◌≤◌, length};
-ghost use Rattle.form.specs.declared.Verdict.TheVariants.{Accepted};
+ghost use Rattle.form.specs.Said.{Accepted};
 ghost use Rattle.form.specs.Form.{judge, body_of};
 ghost use Rattle.form.specs.Conflict.{conflicts};
-ghost use Rattle.lent.specs.Adding.{Adds};
+ghost use Rattle.lent.specs.Filled.{Grows};
 ghost use Rattle.lines.specs.Parts.{WalkedAdds, LastAdds, first_five};
 
-use listing::Listed;
-use walk::WalkAnswer;
+use lent::Filled;
+use plan::Totals;
 
 // How many entries the conflict list has: asked with no room, it tells the bytes that it needs, five an entry.
 fn entries(form: &[u8]) -> u64
     ensures { judge form.now ≡ Accepted → result ≡ length (conflicts (body_of form.now)) }
 {
-    let mut none = [0u8; 1];
-    match listing::conflicts(form, &mut none[..0]) {
-        Listed::Bytes(count) => (count / 5) as u64,
-        Listed::Refused { number: _, place } => (place / 5) as u64,
-    }
+    let bytes = listing::conflicts(form, &mut []).unwrap_or_else(|short| short.place);
+    (bytes / 5) as u64
 }
 
 // How many blocks the form's body has.
 pub fn blocks(form: &[u8]) -> usize
     ensures { (judge form.now ≡ Accepted → result ≡ (body_of form.now).count) × (result ≤ 64) }
 {
-    let reading = reader::read(form);
-    let body = reading.body;
-    body.count
+    reader::read(form).map_or(0, |body| body.count)
 }
 
 // The first five lines.
-pub fn first_five(
-    out: &mut [u8],
-    form: &[u8],
-    blocks: usize,
-    iterations: u64,
-    weight: u64,
-    bound: u64,
-) -> usize
-    requires { 200 ≤ length out.old }
-    ensures { (judge form.now ≡ Accepted
-        → Adds out.old 0 out.new result
-        (first_five (body_of form.now) blocks iterations weight bound)) × (result ≤ 200) }
+pub fn first_five(out: &mut Filled, form: &[u8], blocks: usize, totals: Totals)
+    requires { out.old.end + 200 ≤ length out.old.bytes.now }
+    ensures grows { judge form.now ≡ Accepted
+        → Grows out.old out.new (first_five (body_of form.now) blocks totals) }
+    ensures room { length out.new.bytes.now ≡ length out.old.bytes.now }
+    ensures few { out.new.end ≤ out.old.end + 200 }
 {
-    let a = text::line(out, 0, b"blocks ", blocks as u64);
-    let b = text::line(out, a, b"iterations ", iterations);
-    let c = text::line(out, b, b"conflicts ", entries(form));
-    let d = text::line(out, c, b"weight ", weight);
-    text::line(out, d, b"bound ", bound)
+    text::line(out, b"blocks ", blocks as u64);
+    text::line(out, b"iterations ", totals.iterations);
+    text::line(out, b"conflicts ", entries(form));
+    text::line(out, b"weight ", totals.weight);
+    text::line(out, b"bound ", totals.bound);
 }
 
 // The walk's line: walked, or over.
-fn walked_line(out: &mut [u8], at: usize, form: &[u8]) -> usize
-    requires { at + 28 ≤ length out.old }
-    ensures { WalkedAdds form.now out.old at out.new result }
+fn walked_line(out: &mut Filled, form: &[u8])
+    requires { out.old.end + 28 ≤ length out.old.bytes.now }
+    ensures { WalkedAdds form.now out.old out.new }
 {
     let mut routes = [0u8; 128];
     match walk::walk(form, 100000, &mut routes) {
-        WalkAnswer::Walked {
-            iterations: _,
-            weight: _,
-            bound: _,
-            least: _,
-            least_total: _,
-            walked,
-        } => text::line(out, at, b"walked ", walked),
-        WalkAnswer::Refused {
-            number: _,
-            place: _,
-        } => lent::put(out, at, b"walked over\n"),
+        Ok(found) => text::line(out, b"walked ", found.walked),
+        Err(_) => out.add(b"walked over\n"),
     }
 }
 
 // The last five lines, over the heaviest route's bytes and the lightest's.
 pub fn last_five(
-    out: &mut [u8],
-    at: usize,
+    out: &mut Filled,
     form: &[u8],
     route: &[u8],
     least: u64,
     lightest: &[u8],
     kept: u64,
-) -> usize
-    requires { (at + 3000 ≤ length out.old) × ((length route.now ≤ 64) × (length lightest.now ≤ 64)) }
-    ensures { LastAdds form.now out.old at out.new result
-        route.now least lightest.now kept }
+)
+    requires room { out.old.end + 3000 ≤ length out.old.bytes.now }
+    requires routes { (length route.now ≤ 64) × (length lightest.now ≤ 64) }
+    ensures { LastAdds form.now out.old out.new route.now least lightest.now kept }
 {
-    let a = text::route(out, at, b"route", route);
-    let b = text::line(out, a, b"least ", least);
-    let c = text::route(out, b, b"least route", lightest);
-    let d = text::line(out, c, b"kept ", kept);
-    walked_line(out, d, form)
+    text::route(out, b"route", route);
+    text::line(out, b"least ", least);
+    text::route(out, b"least route", lightest);
+    text::line(out, b"kept ", kept);
+    walked_line(out, form);
 }

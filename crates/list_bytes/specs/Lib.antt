@@ -1,3 +1,5 @@
--- The bytes of entries and of an edge's firsts (Laying), and that those of all edges are the list's (Listing).
+-- The bytes of entries and of an edge's firsts (Laying), the list as it grows in lent bytes (Growing), and that the
+-- bytes of all edges are the list's (Listing).
 pub mod Laying
+pub mod Growing
 pub mod Listing

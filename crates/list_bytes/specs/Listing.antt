@@ -20,9 +20,14 @@ use Rattle.lower_laws.specs.Joined.{by_way, edge_pairs, past_count, denies_none,
 use Rattle.lower_laws.specs.Joined.{way_none, conflicts_by_edge}
 use Rattle.sets.specs.declared.Firsts.{Firsts}
 use Rattle.sets.specs.declared.Found.{Found}
-use Rattle.path_sets.specs.Parts.{FirstsBy, FoundBy}
+use Rattle.path_sets.specs.Parts.{FirstsBy}
+use Rattle.path_sets.specs.declared.Outcome.{Outcome}
+use Rattle.path_sets.specs.declared.Outcome.TheVariants.{Jump, Fall}
+use Rattle.list_bytes.specs.Laying.{entry_bytes, word_bytes, edge_bytes}
 use Rattle.lent.specs.Adding.{Adds}
-use Rattle.list_bytes.specs.Laying.{entry_bytes, word_bytes, edge_bytes, one_more, room_more}
+use Rattle.lent.specs.declared.Filled.{Filled}
+use Rattle.lent.specs.Filled.{HasRoom, Grows, then}
+use Rattle.list_bytes.specs.Growing.{pairs, room_first, room_next, one_more, room_more}
 
 abbrev pair_bytes : Pair → List ℕ
 pair_bytes p = p.kind ∷ p.first ∷ p.third ∷ p.second ∷ p.outcome ∷ []
@@ -42,6 +47,16 @@ bits_of a j f = sum 64 (λ s. ones (get_or a s 0) + (ones (get_or j s 0) + ones 
 
 abbrev pub firsts_bits : Firsts → ℕ
 firsts_bits p = bits_of p.assigned p.jump p.fall
+
+-- of one row, and of each row by itself
+abbrev pub row_bits : List ℕ → ℕ
+row_bits row = sum 64 (λ s. ones (get_or row s 0))
+
+pub bits_by_row : (a j f : List ℕ) → bits_of a j f ≡ row_bits a + row_bits j + row_bits f
+bits_by_row a j f =
+    let all = sum_add 64 (λ s. ones (get_or a s 0)) (λ s. ones (get_or j s 0) + ones (get_or f s 0)) in
+    let edges = sum_add 64 (λ s. ones (get_or j s 0)) (λ s. ones (get_or f s 0)) in
+    omega arith
 
 -- ---- lists in lists
 
@@ -175,45 +190,38 @@ bytes_length body = fives (conflicts body)
 
 -- ---- the lent bytes
 
-pub record Rows (variable a1 j1 f1 a2 j2 f2 : List ℕ) : Type 0 where
-  pub variables : length variable ≡ 64
-  pub first : (length a1 ≡ 64) × ((length j1 ≡ 64) × (length f1 ≡ 64))
-  pub second : (length a2 ≡ 64) × ((length j2 ≡ 64) × (length f2 ≡ 64))
-
-abbrev pub FoundRows : Found → Type 0
-FoundRows f = Rows f.variable f.jumped.assigned f.jumped.jump f.jumped.fall f.fallen.assigned
-    f.fallen.jump f.fallen.fall
-
 abbrev pub found_bytes : Found → List ℕ
 found_bytes f = all_bytes f.variable f.jumped.assigned f.jumped.jump f.jumped.fall f.fallen.assigned
     f.fallen.jump f.fallen.fall
 
--- what is found of a body has them
-pub found_rows : (body : Body) (f : Found) → FoundBy body f → FoundRows f
-found_rows body f b = record {
-  variables = b.variables.size;
-  first = (b.jumped.assigned.size, (b.jumped.jumps.size, b.jumped.falls.size));
-  second = (b.fallen.assigned.size, (b.fallen.jumps.size, b.fallen.falls.size));
-}
+-- the bytes of block s
+abbrev pub found_block : Found → ℕ → List ℕ
+found_block f = block_bytes f.variable f.jumped.assigned f.jumped.jump f.jumped.fall f.fallen.assigned f.fallen.jump
+    f.fallen.fall
 
--- one turn of the loop by blocks
-module _ {before out : List ℕ} {at : ℕ} (variable a1 j1 f1 a2 j2 f2 : List ℕ) (s : ℕ)
-    (l : Adds before 0 out at (each (range 0 s) (block_bytes variable a1 j1 f1 a2 j2 f2))) where
-  abbrev one : List ℕ
-  one = edge_bytes (get_or a1 s 0) (get_or j1 s 0) (get_or f1 s 0) (get_or variable s 0) s 1
+module _ (f : Found) (s : ℕ) where
+  abbrev edge_pairs_by : Outcome → Firsts → List ℕ
+  edge_pairs_by way = pairs (record { block = s; outcome = way; variable = get_or f.variable s 0 })
 
-  abbrev two : List ℕ
-  two = edge_bytes (get_or a2 s 0) (get_or j2 s 0) (get_or f2 s 0) (get_or variable s 0) s 2
+  module _ {a b : Filled} (l : Grows a b (each (range 0 s) (found_block f))) (room : HasRoom a (found_bytes f))
+      (below : s < 64) where
+    both_room : HasRoom b (found_block f s)
+    unfolding all_bytes
+    both_room = room_more (found_block f) s l 64 below room
 
-  pub all_room : s < 64 → 0 + length (all_bytes variable a1 j1 f1 a2 j2 f2) ≤ length before
-      → at + length one + length two ≤ length out
+    pub jump_pairs_room : HasRoom b (edge_pairs_by Jump f.jumped)
+    jump_pairs_room = room_first b _ _ both_room
+
+    pub fall_pairs_room : (c : Filled) → Grows b c (edge_pairs_by Jump f.jumped)
+        → HasRoom c (edge_pairs_by Fall f.fallen)
+    fall_pairs_room c g = room_next c _ both_room g
+
+    pub pairs_more : {c : Filled} (d : Filled) → Grows b c (edge_pairs_by Jump f.jumped)
+        → Grows c d (edge_pairs_by Fall f.fallen) → Grows a d (each (range 0 (s + 1)) (found_block f))
+    pairs_more d p q = one_more (found_block f) s l (then p q)
+
+  -- all of it stands in what was lent, when that is given back
+  pub all_done : {a b : Filled} {lent given : List ℕ} → s ≡ 64 → Grows a b (each (range 0 s) (found_block f)) → a.end ≡ 0
+      → a.bytes.now ≡ lent → given ≡ b.bytes.now → Adds lent 0 given b.end (found_bytes f)
   unfolding all_bytes
-  all_room h room = room_more (block_bytes variable a1 j1 f1 a2 j2 f2) s one two refl l 64 h room
-
-  pub all_next : {out' out'' : List ℕ} {at' at'' : ℕ} → Adds out at out' at' one → Adds out' at' out'' at'' two
-      → Adds before 0 out'' at'' (each (range 0 (s + 1)) (block_bytes variable a1 j1 f1 a2 j2 f2))
-  all_next = one_more (block_bytes variable a1 j1 f1 a2 j2 f2) s one two refl l
-
-  pub all_done : s ≡ 64 → Adds before 0 out at (all_bytes variable a1 j1 f1 a2 j2 f2)
-  unfolding all_bytes
-  all_done e = rw e at l
+  all_done e l none begun back = rw back (rw (e, none, begun) at l.adds)

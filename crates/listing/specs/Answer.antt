@@ -1,14 +1,22 @@
--- The answers of the conflict list. Trusted: for each case of the answer document 01's number and place, what is
--- answered for any bytes and any room, and what the lent bytes hold afterwards. A refusal's number is as tabled; 0
--- stands for none. Rests on form's Form, Answer and Conflict.
-use Rattle.std.specs.Prelude.{◌≡◌, List, ◌++◌, ℕ, ◌≤◌, ◌<◌, ltb, length, drop}
+-- The answers of the conflict list, in document 01's words, and what the code's answer says in them. Trusted: for each
+-- case of the answer document 01's number and place, what is answered for any bytes and any room, and what the lent
+-- bytes hold afterwards. A refusal's number is as tabled; 0 stands for none. Rests on form's Said, Form and Conflict.
+use Rattle.std.specs.Prelude.{◌≡◌, List, ◌++◌, ℕ, ◌≤◌, ◌<◌, ltb, length, drop, Result, Ok, Err}
 use Rattle.form.specs.declared.Body.{Body}
-use Rattle.form.specs.declared.Verdict.{Verdict}
-use Rattle.form.specs.declared.Verdict.TheVariants.{Accepted, Refused as NoForm}
+use Rattle.form.specs.declared.Refusal.{Refusal}
+use Rattle.form.specs.Said.{Verdict, Accepted, Refused as NoForm, number_of as fault_number}
 use Rattle.form.specs.Form.{when, judge, body_of}
 use Rattle.form.specs.Conflict.{conflict_bytes}
-use Rattle.listing.specs.declared.Listed.{Listed}
-use Rattle.listing.specs.declared.Listed.TheVariants.{Bytes, Refused}
+
+-- What the conflict list answers: how many bytes it wrote, or the refusal's number and place
+pub data Listed : Type 0 where
+  Bytes : (count : ℕ) → Listed
+  Refused : (number place : ℕ) → Listed
+
+-- What the code's answer says
+abbrev pub listed_of : Result ℕ Refusal → Listed
+listed_of (Ok count) = Bytes count
+listed_of (Err r) = Refused (fault_number r.fault) r.place
 
 -- the refusal's number and place, and how many bytes are written; what an answer does not have is zero
 pub record Values : Type 0 where

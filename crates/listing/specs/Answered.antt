@@ -3,16 +3,12 @@
 use Rattle.std.specs.Prelude.{◌≡◌, refl, Bool, true, false, List, ℕ, ltb, length}
 use Rattle.std.proofs.Common.{sym, ap, subst, ◌∙◌, ltb-true, ltb-false}
 use Rattle.form.specs.declared.Body.{Body}
-use Rattle.form.specs.declared.Reading.{Reading}
-use Rattle.form.specs.declared.Verdict.{Verdict}
-use Rattle.form.specs.declared.Verdict.TheVariants.{Accepted, Refused as NoForm}
+use Rattle.form.specs.Said.{Reading, Verdict, Accepted, Refused as NoForm}
 use Rattle.form.specs.Form.{when, judge, body_of}
 use Rattle.form.specs.Answer.{reading}
 use Rattle.form.specs.Conflict.{conflict_bytes}
 use Rattle.roundtrip.specs.Read.{read_as, read_accepted, read_body}
-use Rattle.listing.specs.declared.Listed.{Listed}
-use Rattle.listing.specs.declared.Listed.TheVariants.{Bytes, Refused}
-use Rattle.listing.specs.Answer.{said, Owed, as_judged, listed_in, listing, held_after, Answered}
+use Rattle.listing.specs.Answer.{Listed, Bytes, Refused, said, Owed, as_judged, listed_in, listing, held_after, Answered}
 use Rattle.listing.specs.Answer.Owed.{no_form, no_room, listed}
 
 -- the same in numbers

@@ -1,14 +1,11 @@
 -- Which refusals the list can give, after document 01: 10 to 19, and 42. Rests on Answer and roundtrip's Refusals.
 use Rattle.std.specs.Prelude.{◌≡◌, refl, ◌⊎◌, Bool, true, false, List, ℕ, ltb, length}
 use Rattle.std.proofs.Common.{sym, ◌∙◌, inl, inr, arith}
-use Rattle.form.specs.declared.Verdict.{Verdict}
-use Rattle.form.specs.declared.Verdict.TheVariants.{Accepted, Refused as NoForm}
+use Rattle.form.specs.Said.{Verdict, Accepted, Refused as NoForm}
 use Rattle.form.specs.Form.{when, judge, body_of}
 use Rattle.form.specs.Conflict.{conflict_bytes}
 use Rattle.roundtrip.specs.Refusals.{ReadersNumber, reader_gives}
-use Rattle.listing.specs.declared.Listed.{Listed}
-use Rattle.listing.specs.declared.Listed.TheVariants.{Bytes, Refused}
-use Rattle.listing.specs.Answer.{Values, Owed, as_judged, Answered}
+use Rattle.listing.specs.Answer.{Listed, Bytes, Refused, Values, Owed, as_judged, Answered}
 use Rattle.listing.specs.Answer.Owed.{no_form, no_room, listed}
 
 -- by the case

@@ -5,8 +5,7 @@ use Rattle.std.proofs.Common.{ap, arith, lt-ltb, le-ltb}
 use Rattle.form.specs.declared.Body.{Body}
 use Rattle.form.specs.Conflict.{conflicts, conflict_bytes}
 use Rattle.list_bytes.specs.Listing.{bytes_length}
-use Rattle.listing.specs.declared.Listed.TheVariants.{Bytes, Refused}
-use Rattle.listing.specs.Answer.{listed_in}
+use Rattle.listing.specs.Answer.{Bytes, Refused, listed_in}
 
 module _ (body : Body) (n room : ℕ) (is : n ≡ length (conflicts body)) where
   needed : 5 * n ≡ length (conflict_bytes body)

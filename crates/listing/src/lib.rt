@@ -4,44 +4,33 @@
 
 ghost use Rattle.std.specs.Prelude.{◌≡◌, length};
 ghost use Rattle.form.specs.Conflict.{Sound, conflict_bytes};
-ghost use Rattle.listing.specs.Answer.{listed_in, held_after, Answered};
+ghost use Rattle.listing.specs.Answer.{listed_of, listed_in, held_after, Answered};
 
-// What the conflict list answers: how many bytes it wrote, or the refusal's number and place.
-#[derive(Clone, Copy)]
-pub enum Listed {
-    Bytes(usize),
-    Refused { number: u32, place: usize },
-}
+use form::{Body, Fault, Refusal};
 
-fn list_of(body: form::Body, out: &mut [u8]) -> Listed
+// The conflict list of a body into `out`.
+fn list_of(body: Body, out: &mut [u8]) -> Result<usize, Refusal>
     requires { Sound body }
-    ensures { (result ≡ listed_in body (length out.old)) ×
-        (out.new ≡ held_after result (conflict_bytes body) out.old) }
+    ensures { (listed_of result ≡ listed_in body (length out.old)) ×
+        (out.new ≡ held_after (listed_of result) (conflict_bytes body) out.old) }
 {
     let local = local_sets::local_of(body);
-    let f = path_sets::find(local);
-    let bytes = 5 * list_bytes::found_number(f);
+    let found = path_sets::find(&local);
+    let bytes = 5 * list_bytes::found_number(&found);
     if out.len() < bytes {
-        return Listed::Refused {
-            number: 42,
+        return Err(Refusal {
+            fault: Fault::ShortRoom,
             place: bytes,
-        };
+        });
     }
-    let end = list_bytes::found_entries(out, f);
-    Listed::Bytes(end)
+    Ok(list_bytes::found_entries(out, &found))
 }
 
-// The conflict list, for any bytes: 10 to 19, then 42 with the bytes needed, else the list's bytes into `out`.
-pub fn conflicts(form: &[u8], out: &mut [u8]) -> Listed
-    ensures { Answered form.now out.old result out.new }
+// The conflict list, for any bytes: how many bytes of it were written into `out`; else the reader's refusal, or that
+// `out` is short, with the bytes needed.
+pub fn conflicts(form: &[u8], out: &mut [u8]) -> Result<usize, Refusal>
+    ensures { Answered form.now out.old (listed_of result) out.new }
 {
-    let reading = reader::read(form);
-    let verdict = reading.verdict;
-    match verdict {
-        form::Verdict::Refused { number, place } => Listed::Refused { number, place },
-        form::Verdict::Accepted => {
-            let body = reading.body;
-            list_of(body, out)
-        }
-    }
+    let body = reader::read(form)?;
+    list_of(body, out)
 }

@@ -1,7 +1,4 @@
 -- What the contracts of `local_of` and of the functions below it say, and what their proofs share. The sets
 -- themselves are sets' Local.
 pub mod Parts
-pub mod Sorting
-pub mod Turns
-pub mod Finding
 pub mod Uniqueness

@@ -1,51 +1,56 @@
 // What a body's blocks, effects and edges say by themselves, as sets of edges in words: the part of its conflicts
-// that looks at no path. The meaning is in sets' Local and in form's Conflict.
+// that looks at no path. The meaning is in sets' Local and in form's Conflict. Endings, relations and kinds of
+// effects are numbers here, since form::Block and form::Effect hold the form's own.
 #![tactic(auto)]
 
-ghost use Rattle.std.specs.Prelude.{◌≡◌, ◌+◌, ◌≤◌, ltb, length};
-ghost use Rattle.form.specs.Form.{when};
-ghost use Rattle.form.specs.Conflict.{no_block};
+ghost use Rattle.std.specs.Prelude.{◌≡◌, ◌≤◌, [], ◌∷◌, length, take};
 ghost use Rattle.form.specs.Relation.{opposite};
-ghost use Rattle.words.specs.Filled.{Told};
-ghost use Rattle.lower_laws.specs.Effects.{Within};
-ghost use Rattle.lower_laws.specs.Endings.{target};
-ghost use Rattle.local_sets.specs.Parts.{block_in, ColumnsOf, Sized, OnVariable, MarksFrom, HitsFrom, RowsFrom};
-ghost use Rattle.local_sets.specs.Parts.{EffectRowsOf, OpposedIn, AlikeAt, OpposedAt, OpposedOf};
 ghost use Rattle.sets.specs.Local.{local_of};
+ghost use Rattle.local_sets.specs.Parts.{WaysOf, conflict, asked, TestsOf, ConflictsIn, Follows, HitsFrom};
 
-// The tests of a body: which blocks they are, and each block's variable, relation by jump and by fall, and constant.
-#[derive(Clone, Copy)]
-struct Tests {
-    tests: u64,
-    variable: [u8; 64],
-    jump: [u8; 64],
-    fall: [u8; 64],
-    constant: [i32; 64],
+// What there is by each of the two ways of leaving a block.
+// (a) sets' Targets and Edges stay beside it: its definitions (edge_rows, SetsFrom) name these types.
+#[derive(Clone, Copy, Default)]
+struct ByWay<T> {
+    jump: T,
+    fall: T,
 }
 
-// The blocks of a body by columns: the tests, where the ways lead, and how many effects each block has.
-#[derive(Clone, Copy)]
-struct Columns {
-    tests: Tests,
-    targets: sets::Targets,
-    owned: [usize; 64],
+// What an edge of a test asks of the test's variable.
+#[derive(Clone, Copy, Default)]
+struct Condition {
+    relation: u8,
+    constant: i32,
 }
 
-// For each effect of a body the tests on its variable, and of those the ones whose edge by jump, and by fall, it
-// denies.
-#[derive(Clone, Copy)]
-struct Marks {
-    on: [u64; 256],
-    jump: [u64; 256],
-    fall: [u64; 256],
+impl Condition {
+    // Whether no whole number meets both.
+    fn conflicts_with(self, other: Condition) -> bool
+        ensures { result ≡ conflict self other }
+    {
+        pair::conflicting(self.relation, self.constant, other.relation, other.constant)
+    }
 }
 
-// The tests that a block touches, and those whose jump or fall edge its last effect on their variable denies.
-#[derive(Clone, Copy)]
+// The tests that effects touch, and those whose edge the last effect on their variable denies.
+#[derive(Clone, Copy, Default)]
 struct Hits {
     touched: u64,
-    jump: u64,
-    fall: u64,
+    denied: ByWay<u64>,
+}
+
+impl Hits {
+    // Those of some effects, and then of later ones.
+    fn then(self, later: Hits) -> Hits
+        ensures { Follows self later result }
+    {
+        let jump = words::renewed(self.denied.jump, later.touched, later.denied.jump);
+        let fall = words::renewed(self.denied.fall, later.touched, later.denied.fall);
+        Hits {
+            touched: words::either(self.touched, later.touched),
+            denied: ByWay { jump, fall },
+        }
+    }
 }
 
 // For each block, the tests that it touches and the edges that its effects deny.
@@ -55,6 +60,61 @@ struct EffectRows {
     denied: sets::Edges,
 }
 
+// For each block, the edges that its edge by jump, and that by fall, conflicts with.
+#[derive(Clone, Copy)]
+struct EdgeRows {
+    jumping: sets::Edges,
+    falling: sets::Edges,
+}
+
+// The blocks of a body: what stands past its count is no part of it.
+fn blocks_of(body: &form::Body) -> &[form::Block]
+    ensures own { result.now ≡ take body.now.count body.now.blocks }
+    ensures few { length result.now ≤ 64 }
+{
+    let blocks: &[form::Block] = &body.blocks;
+    &blocks[..body.count.min(blocks.len())]
+}
+
+// Where a block's ways lead; 64 where it has no such way, as in sets::Targets.
+fn ways_of(block: form::Block) -> ByWay<usize>
+    ensures { WaysOf block result }
+{
+    let jump = usize::from(block.jump);
+    let fall = usize::from(block.fall);
+    match block.ending {
+        1 => ByWay { jump, fall: 64 },
+        2 | 3 => ByWay { jump, fall },
+        _ => ByWay { jump: 64, fall: 64 },
+    }
+}
+
+fn targets_of(body: &form::Body) -> sets::Targets
+    ensures { result ≡ (local_of body.now).targets }
+{
+    let mut targets = sets::Targets {
+        jump: [64; 64],
+        fall: [64; 64],
+    };
+    for (b, block) in blocks_of(body).iter().enumerate() {
+        let ways = ways_of(*block);
+        targets.jump[b] = ways.jump;
+        targets.fall[b] = ways.fall;
+    }
+    targets
+}
+
+fn variables_of(body: &form::Body) -> [u8; 64]
+    ensures { result ≡ (local_of body.now).variable }
+{
+    let mut variables = [0; 64];
+    for (b, block) in blocks_of(body).iter().enumerate() {
+        variables[b] = block.variable;
+    }
+    variables
+}
+
+// The relation that holds exactly where this one fails.
 fn opposite(relation: u8) -> u8
     ensures { result ≡ opposite relation }
 {
@@ -69,287 +129,143 @@ fn opposite(relation: u8) -> u8
     }
 }
 
-// The block, where it is one of the body's.
-fn own_block(count: usize, i: usize, k: form::Block) -> form::Block
-    ensures { result ≡ when (ltb i count) k no_block }
+// What the edges of a test ask.
+fn asked(test: form::Block) -> ByWay<Condition>
+    ensures { result ≡ asked test }
 {
-    if i < count {
-        return k;
-    }
-    form::Block {
-        cost: 0,
-        ending: 0,
-        jump: 0,
-        fall: 0,
-        variable: 0,
-        relation: 0,
-        constant: 0,
-        effects: 0,
-    }
-}
-
-fn target(has: bool, to: u8) -> usize
-    ensures { result ≡ target has to }
-{
-    if has { to as usize } else { 64 }
-}
-
-fn columns_of(count: usize, blocks: [form::Block; 64]) -> Columns
-    ensures { ColumnsOf (block_in count blocks) result × (length blocks ≡ 64) }
-{
-    let mut tests = 0;
-    let mut variable = [0; 64];
-    let mut jump = [0; 64];
-    let mut fall = [0; 64];
-    let mut constant = [0; 64];
-    let mut jumps = [64; 64];
-    let mut falls = [64; 64];
-    let mut owned = [0; 64];
-    let mut i = 0;
-    while i < 64 {
-        let k = own_block(count, i, blocks[i]);
-        tests = words::put(tests, i, k.ending == 3);
-        variable[i] = k.variable;
-        jump[i] = k.relation;
-        fall[i] = opposite(k.relation);
-        let c = k.constant;
-        constant[i] = c;
-        jumps[i] = target((0 < k.ending) & (k.ending < 4), k.jump);
-        falls[i] = target((1 < k.ending) & (k.ending < 4), k.fall);
-        owned[i] = k.effects;
-        i += 1;
-    }
-    let tests = Tests {
-        tests,
-        variable,
-        jump,
-        fall,
+    let constant = test.constant;
+    let jump = Condition {
+        relation: test.relation,
         constant,
     };
-    let targets = sets::Targets {
-        jump: jumps,
-        fall: falls,
+    let fall = Condition {
+        relation: opposite(test.relation),
+        constant,
     };
-    Columns {
-        tests,
-        targets,
-        owned,
+    ByWay { jump, fall }
+}
+
+// The tests of a body: those on each variable, and what the edges of each ask.
+#[derive(Clone, Copy)]
+struct Tests {
+    on: [u64; 256],
+    edges: [ByWay<Condition>; 64],
+}
+
+impl Tests {
+    fn of(body: &form::Body) -> Tests
+        ensures { TestsOf body.now result }
+    {
+        let mut on = [0; 256];
+        let mut edges = [ByWay::default(); 64];
+        for (k, block) in blocks_of(body).iter().enumerate() {
+            let variable = usize::from(block.variable);
+            on[variable] = words::put(on[variable], k, block.ending == 3);
+            edges[k] = asked(*block);
+        }
+        Tests { on, edges }
+    }
+
+    // Of a set of tests, the edges that conflict with a condition on their variable.
+    fn conflicts(&self, set: u64, condition: Condition) -> ByWay<u64>
+        ensures { ConflictsIn self.now.edges set condition result }
+    {
+        let mut jump = 0;
+        let mut fall = 0;
+        for k in words::members(set) {
+            let edges = self.edges[k];
+            jump = words::put(jump, k, condition.conflicts_with(edges.jump));
+            fall = words::put(fall, k, condition.conflicts_with(edges.fall));
+        }
+        ByWay { jump, fall }
+    }
+
+    // What an effect by itself does to the tests: a constant denies the edges that it does not meet.
+    fn hit(&self, effect: form::Effect) -> Hits
+        ensures { HitsFrom self.now (effect ∷ []) result }
+    {
+        let alike = self.on[usize::from(effect.variable)];
+        let set = words::only(effect.how == 1, alike);
+        let equal = Condition {
+            relation: 0,
+            constant: effect.constant,
+        };
+        let denied = self.conflicts(set, equal);
+        Hits {
+            touched: alike,
+            denied,
+        }
+    }
+
+    // What effects do to the tests, one after another.
+    fn hits(&self, effects: &[form::Effect]) -> Hits
+        ensures { HitsFrom self.now effects.now result }
+    {
+        let mut hits = Hits::default();
+        for effect in effects {
+            hits = hits.then(self.hit(*effect));
+        }
+        hits
+    }
+
+    // What the effects do to the tests, block by block.
+    fn effect_rows(&self, body: &form::Body) -> EffectRows
+        requires { TestsOf body.now self.now }
+        ensures touched { result.touched ≡ (local_of body.now).touched }
+        ensures denied { result.denied ≡ (local_of body.now).denied }
+    {
+        let mut touched = [0; 64];
+        let mut denied = sets::Edges {
+            jump: [0; 64],
+            fall: [0; 64],
+        };
+        let mut left: &[form::Effect] = &body.effects;
+        for (b, block) in blocks_of(body).iter().enumerate() {
+            let (own, others) = left.split_at(block.effects.min(left.len()));
+            let hits = self.hits(own);
+            touched[b] = hits.touched;
+            denied.jump[b] = hits.denied.jump;
+            denied.fall[b] = hits.denied.fall;
+            left = others;
+        }
+        EffectRows { touched, denied }
+    }
+
+    // The edges that each test's edges conflict with.
+    fn edge_rows(&self, body: &form::Body) -> EdgeRows
+        requires { TestsOf body.now self.now }
+        ensures jumping { result.jumping ≡ (local_of body.now).jumping }
+        ensures falling { result.falling ≡ (local_of body.now).falling }
+    {
+        let mut jumping = sets::Edges {
+            jump: [0; 64],
+            fall: [0; 64],
+        };
+        let mut falling = jumping;
+        for (b, block) in blocks_of(body).iter().enumerate() {
+            let on = self.on[usize::from(block.variable)];
+            let alike = words::only(block.ending == 3, on);
+            let edges = self.edges[b];
+            let by_jump = self.conflicts(alike, edges.jump);
+            jumping.jump[b] = by_jump.jump;
+            jumping.fall[b] = by_jump.fall;
+            let by_fall = self.conflicts(alike, edges.fall);
+            falling.jump[b] = by_fall.jump;
+            falling.fall[b] = by_fall.fall;
+        }
+        EdgeRows { jumping, falling }
     }
 }
 
-// For each variable, the tests on it.
-fn tests_by_variable(tests: u64, variable: &[u8]) -> [u64; 256]
-    requires { length variable.now ≡ 64 }
-    ensures { OnVariable tests variable.now result }
-{
-    let mut r = [0; 256];
-    let mut i = 0;
-    while i < 64 {
-        let v = variable[i] as usize;
-        r[v] = words::put(r[v], i, words::has(tests, i));
-        i += 1;
-    }
-    r
-}
-
-// Those of the set whose relation to their constant no whole number has together with the relation to the constant.
-fn opposed(set: u64, relations: &[u8], constants: &[i32], relation: u8, constant: i32) -> u64
-    requires { (length relations.now ≡ 64) × (length constants.now ≡ 64) }
-    ensures { OpposedIn set relations.now constants.now relation constant result }
-{
-    let mut r = 0;
-    let mut left = set;
-    while left != 0 {
-        let j = words::lowest(left);
-        let against = pair::conflicting(relation, constant, relations[j], constants[j]);
-        r = words::put(r, j, against);
-        left = words::rest(left);
-    }
-    r
-}
-
-// What each effect by itself does to the tests: `groups` has the tests on each variable, then come the tests'
-// relations by jump and by fall, and their constants.
-fn marks_of(
-    effects: [form::Effect; 256],
-    groups: &[u64],
-    jump: &[u8],
-    fall: &[u8],
-    constant: &[i32],
-) -> Marks
-    requires { (length groups.now ≡ 256) ×
-        ((length jump.now ≡ 64) × ((length fall.now ≡ 64) × (length constant.now ≡ 64))) }
-    ensures { MarksFrom groups.now jump.now fall.now
-        constant.now effects result }
-{
-    let mut on = [0; 256];
-    let mut by_jump = [0; 256];
-    let mut by_fall = [0; 256];
-    let mut k = 0;
-    while k < 256 {
-        let a = effects[k];
-        let value = a.constant;
-        let v = a.variable as usize;
-        let alike = groups[v];
-        let set = words::only(a.how == 1, alike);
-        on[k] = alike;
-        by_jump[k] = opposed(set, jump, constant, 0, value);
-        by_fall[k] = opposed(set, fall, constant, 0, value);
-        k += 1;
-    }
-    Marks {
-        on,
-        jump: by_jump,
-        fall: by_fall,
-    }
-}
-
-// The effects of a block, `own` of them from place `from` on: which tests they touch, and which edges the last on
-// their variable denies.
-fn hits_of(on: &[u64], jump: &[u64], fall: &[u64], from: usize, own: usize) -> Hits
-    requires { ((length on.now ≡ 256) × ((length jump.now ≡ 256) × (length fall.now ≡ 256))) ×
-        (from + own ≤ 256) }
-    ensures { HitsFrom on.now jump.now fall.now from own result }
-{
-    let mut touched = 0;
-    let mut by_jump = 0;
-    let mut by_fall = 0;
-    let mut k = 0;
-    while k < own {
-        let i = from + k;
-        let alike = on[i];
-        touched = words::either(touched, alike);
-        by_jump = words::renewed(by_jump, alike, jump[i]);
-        by_fall = words::renewed(by_fall, alike, fall[i]);
-        k += 1;
-    }
-    Hits {
-        touched,
-        jump: by_jump,
-        fall: by_fall,
-    }
-}
-
-// So many of a block's effects as the 256 places still have.
-fn within(from: usize, own: usize) -> usize
-    requires { from ≤ 256 }
-    ensures { Within 256 from own result }
-{
-    let left = 256 - from;
-    if own < left { own } else { left }
-}
-
-// The effects block by block, each block having so many as `owned` says.
-fn effect_rows(owned: &[usize], on: &[u64], jump: &[u64], fall: &[u64]) -> EffectRows
-    requires { (length owned.now ≡ 64) ×
-        ((length on.now ≡ 256) × ((length jump.now ≡ 256) × (length fall.now ≡ 256))) }
-    ensures { RowsFrom owned.now on.now jump.now fall.now result }
-{
-    let mut touched = [0; 64];
-    let mut by_jump = [0; 64];
-    let mut by_fall = [0; 64];
-    let mut from = 0;
-    let mut b = 0;
-    while b < 64 {
-        let own = within(from, owned[b]);
-        let h = hits_of(on, jump, fall, from, own);
-        touched[b] = h.touched;
-        by_jump[b] = h.jump;
-        by_fall[b] = h.fall;
-        from += own;
-        b += 1;
-    }
-    let denied = sets::Edges {
-        jump: by_jump,
-        fall: by_fall,
-    };
-    EffectRows { touched, denied }
-}
-
-// What the blocks' effects do to the tests: `groups` has the tests on each variable.
-fn effects_by(
-    owned: [usize; 64],
-    effects: [form::Effect; 256],
-    groups: &[u64],
-    t: Tests,
-) -> EffectRows
-    requires { Sized t × (length groups.now ≡ 256) }
-    ensures { OnVariable t.tests t.variable groups.now → EffectRowsOf t owned effects result }
-{
-    let jump = t.jump;
-    let fall = t.fall;
-    let constant = t.constant;
-    let marks = marks_of(effects, groups, &jump, &fall, &constant);
-    effect_rows(&owned, &marks.on, &marks.jump, &marks.fall)
-}
-
-// For each test, the tests on its variable: `groups` has those on each variable.
-fn alike_rows(tests: u64, variable: &[u8], groups: &[u64]) -> [u64; 64]
-    requires { (length variable.now ≡ 64) × (length groups.now ≡ 256) }
-    ensures { OnVariable tests variable.now groups.now
-        → Told 0 (AlikeAt tests variable.now) 64 64 result }
-{
-    let mut r = [0; 64];
-    let mut b = 0;
-    while b < 64 {
-        let v = variable[b] as usize;
-        r[b] = words::only(words::has(tests, b), groups[v]);
-        b += 1;
-    }
-    r
-}
-
-// Of those, the ones whose relation among the second no whole number meets together with the test's own among the
-// first.
-fn opposed_rows(alike: &[u64], first: &[u8], second: &[u8], constant: &[i32]) -> [u64; 64]
-    requires { (length alike.now ≡ 64) ×
-        ((length first.now ≡ 64) × ((length second.now ≡ 64) × (length constant.now ≡ 64))) }
-    ensures { Told 0
-        (OpposedAt alike.now first.now second.now constant.now) 64 64 result }
-{
-    let mut r = [0; 64];
-    let mut b = 0;
-    while b < 64 {
-        let value = constant[b];
-        r[b] = opposed(alike[b], second, constant, first[b], value);
-        b += 1;
-    }
-    r
-}
-
-// The edges that each test's edge by one way conflicts with, that way's relations being `first`.
-fn opposed_edges(alike: &[u64], first: [u8; 64], t: Tests) -> sets::Edges
-    requires { Sized t × ((length alike.now ≡ 64) × (length first ≡ 64)) }
-    ensures { OpposedOf t alike.now first result }
-{
-    let by_jump = t.jump;
-    let by_fall = t.fall;
-    let constant = t.constant;
-    let jump = opposed_rows(alike, &first, &by_jump, &constant);
-    let fall = opposed_rows(alike, &first, &by_fall, &constant);
-    sets::Edges { jump, fall }
-}
-
+// (a) By value, since document 01's scope passes a body so.
 pub fn local_of(body: form::Body) -> sets::Local
     ensures { result ≡ local_of body }
 {
-    let blocks = body.blocks;
-    let effects = body.effects;
-    let columns = columns_of(body.count, blocks);
-    let t = columns.tests;
-    let targets = columns.targets;
-    let owned = columns.owned;
-    let tests = t.tests;
-    let variable = t.variable;
-    let jump = t.jump;
-    let fall = t.fall;
-    let groups = tests_by_variable(tests, &variable);
-    let e = effects_by(owned, effects, &groups, t);
-    let alike = alike_rows(tests, &variable, &groups);
-    let jumping = opposed_edges(&alike, jump, t);
-    let falling = opposed_edges(&alike, fall, t);
-    let touched = e.touched;
-    let denied = e.denied;
+    let targets = targets_of(&body);
+    let variable = variables_of(&body);
+    let tests = Tests::of(&body);
+    let EffectRows { touched, denied } = tests.effect_rows(&body);
+    let EdgeRows { jumping, falling } = tests.edge_rows(&body);
     sets::Local {
         targets,
         touched,

@@ -8,8 +8,7 @@ use Rattle.std.specs.Int.{w32}
 use Rattle.laws.specs.Terms.{Mem}
 use Rattle.laws.specs.Tests.{and_out, not_out, clash}
 use Rattle.form.specs.declared.Body.{Body}
-use Rattle.form.specs.declared.Verdict.{Verdict}
-use Rattle.form.specs.declared.Verdict.TheVariants.{Accepted, Refused}
+use Rattle.form.specs.Said.{Verdict, Accepted, Refused}
 use Rattle.form.specs.Answer.{accepted}
 use Rattle.form.specs.Conflict.{block, effects_below, effects_of, touches, last_on, exits, is_test, condition, contradict, opposes, denies}
 use Rattle.form.specs.Counter.{Count}

@@ -3,7 +3,7 @@
 use Rattle.std.specs.Prelude.{List, [], ◌∷◌, ◌≡◌, ℕ, ℤ, pos}
 use Rattle.std.proofs.Math.Option.{some}
 use Rattle.laws.specs.Terms.{Choice, heaviest, lightest}
-use Rattle.form.specs.declared.Verdict.TheVariants.{Accepted}
+use Rattle.form.specs.Said.{Accepted}
 use Rattle.form.specs.Conflict.{Condition, Contradict}
 use Rattle.form.specs.Counter.{Count}
 use Rattle.form.specs.Form.{judge, body_of}

@@ -1,19 +1,18 @@
 -- What the exported calls return. Trusted: each number of an answer, from the answers of the layers below; 0 as number
 -- is no refusal.
-use Rattle.std.specs.Prelude.{List, ℕ, ◌/◌, length}
-use Rattle.form.specs.declared.Verdict.{Verdict}
-use Rattle.form.specs.declared.Written.{Written}
+use Rattle.std.specs.Prelude.{List, ℕ, ◌/◌, length, Result}
+use Rattle.form.specs.declared.Refusal.{Refusal}
+use Rattle.form.specs.Said.{Verdict, Written}
 use Rattle.form.specs.Form.{when, judge, body_of, lay}
 use Rattle.form.specs.Answer.{accepted, number_of, place_of, written_number, written_place, written, held_after}
-use Rattle.counter.specs.declared.Counted.{Counted}
 use Rattle.counter.specs.Answer as Counter
 use Rattle.plan.specs.Owed.{Values}
 use Rattle.entries.specs.declared.Entry.{Entry}
 use Rattle.sweep_steps.specs.Answer as Sweep
-use Rattle.sweep_steps.specs.declared.SweepAnswer.{SweepAnswer}
+use Rattle.sweep_steps.specs.declared.Routed.{Routed}
 use Rattle.numbers.specs.declared.CountAnswer.{CountAnswer}
 use Rattle.numbers.specs.declared.FormAnswer.{FormAnswer}
-use Rattle.listing.specs.declared.Listed.{Listed}
+use Rattle.listing.specs.Answer.{Listed}
 use Rattle.listing.specs.Answer as Conflict
 use Rattle.numbers.specs.declared.ListNumbers.{ListNumbers}
 use Rattle.numbers.specs.declared.SweepNumbers.{SweepNumbers}
@@ -40,24 +39,11 @@ rewrite_held form out =
     when (accepted (judge form)) (held_after (written (body_of form) (length out)) (lay (body_of form)) out) out
 
 -- The counter's answer, as the counter's own definition has it
-abbrev pub count_said : Counted → Counter.Values
+abbrev pub count_said : Result ℕ Refusal → Counter.Values
 count_said answer = Counter.said answer
 
 abbrev pub count_values : CountAnswer → Counter.Values
 count_values answer = record { number = answer.number; place = answer.place; iterations = answer.iterations }
-
-abbrev pub walk_numbers : (number place iterations weight bound least least_total walked : ℕ) → WalkNumbers
-walk_numbers number place iterations weight bound least least_total walked =
-    record {
-      number = number;
-      place = place;
-      iterations = iterations;
-      weight = weight;
-      bound = bound;
-      least = least;
-      least_total = least_total;
-      walked = walked;
-    }
 
 -- The full walk's, as its own definition has it
 abbrev pub walk_values : WalkNumbers → Values
@@ -77,21 +63,8 @@ walk_values answer =
 abbrev pub list_numbers : Listed → ListNumbers
 list_numbers r = record { number = Conflict.number_of r; place = Conflict.place_of r; entries = Conflict.bytes_of r / 5 }
 
-abbrev pub sweep_numbers : (number place iterations weight bound least least_total kept : ℕ) → SweepNumbers
-sweep_numbers number place iterations weight bound least least_total kept =
-    record {
-      number = number;
-      place = place;
-      iterations = iterations;
-      weight = weight;
-      bound = bound;
-      least = least;
-      least_total = least_total;
-      kept = kept;
-    }
-
 -- The sweep's
-abbrev pub sweep_said : SweepAnswer → Values
+abbrev pub sweep_said : Result Routed Refusal → Values
 sweep_said answer = Sweep.said answer
 
 abbrev pub sweep_values : SweepNumbers → Values

@@ -3,18 +3,19 @@
 #![tactic(auto)]
 
 ghost use Rattle.std.specs.Prelude.{◌≡◌};
+ghost use Rattle.form.specs.Said.{number_of, verdict_of, written_of};
+ghost use Rattle.listing.specs.Answer.{listed_of};
 ghost use Rattle.walk.specs.Answer.{said};
-ghost use Rattle.numbers.specs.Answer.{count_values, count_said, walk_numbers, walk_values, sweep_numbers, sweep_values, sweep_said, list_numbers, form_answer, verdict_answer, written_answer};
+ghost use Rattle.numbers.specs.Answer.{form_answer, verdict_answer, written_answer, list_numbers};
+ghost use Rattle.numbers.specs.Answer.{count_values, count_said, walk_values, sweep_values, sweep_said};
 
-use counter::Counted;
-use form::{Verdict, Written};
-use listing::Listed;
-use sweep_steps::SweepAnswer;
-use walk::WalkAnswer;
+use form::Refusal;
+use sweep_steps::Routed;
+use walk::Walked;
 
 // A refusal's number and place; number 0: none.
 #[repr(C)]
-#[derive(Clone, Copy)]
+#[derive(Clone, Copy, Default)]
 pub struct FormAnswer {
     pub number: u64,
     pub place: u64,
@@ -22,7 +23,7 @@ pub struct FormAnswer {
 
 // The same with a loop count; what an answer does not have is zero.
 #[repr(C)]
-#[derive(Clone, Copy)]
+#[derive(Clone, Copy, Default)]
 pub struct CountAnswer {
     pub number: u64,
     pub place: u64,
@@ -31,7 +32,7 @@ pub struct CountAnswer {
 
 // The numbers of the conflict list.
 #[repr(C)]
-#[derive(Clone, Copy)]
+#[derive(Clone, Copy, Default)]
 pub struct ListNumbers {
     pub number: u64,
     pub place: u64,
@@ -40,7 +41,7 @@ pub struct ListNumbers {
 
 // The numbers of the full walk.
 #[repr(C)]
-#[derive(Clone, Copy)]
+#[derive(Clone, Copy, Default)]
 pub struct WalkNumbers {
     pub number: u64,
     pub place: u64,
@@ -54,7 +55,7 @@ pub struct WalkNumbers {
 
 // The numbers of the sweep.
 #[repr(C)]
-#[derive(Clone, Copy)]
+#[derive(Clone, Copy, Default)]
 pub struct SweepNumbers {
     pub number: u64,
     pub place: u64,
@@ -66,144 +67,120 @@ pub struct SweepNumbers {
     pub kept: u64,
 }
 
-fn answer(number: u64, place: u64) -> FormAnswer
-    ensures { result ≡ form_answer number place }
-{
-    FormAnswer { number, place }
-}
+impl From<Refusal> for FormAnswer {
+    ghost from_gives = { λ refusal answer. answer ≡ form_answer (number_of refusal.fault) refusal.place };
 
-pub fn of_verdict(verdict: Verdict) -> FormAnswer
-    ensures { result ≡ verdict_answer verdict }
-{
-    match verdict {
-        Verdict::Accepted => answer(0, 0),
-        Verdict::Refused { number, place } => answer(number as u64, place as u64),
-    }
-}
-
-pub fn of_written(written: Written) -> FormAnswer
-    ensures { result ≡ written_answer written }
-{
-    match written {
-        Written::Bytes(count) => answer(0, count as u64),
-        Written::Refused { number, place } => answer(number as u64, place as u64),
-    }
-}
-
-pub fn of_counted(counted: Counted) -> CountAnswer
-    ensures { count_values result ≡ count_said counted }
-{
-    match counted {
-        Counted::Iterations(k) => CountAnswer {
-            number: 0,
-            place: 0,
-            iterations: k,
-        },
-        Counted::Refused { number, place } => CountAnswer {
-            number: number as u64,
-            place: place as u64,
-            iterations: 0,
-        },
-    }
-}
-
-pub fn of_listed(listed: Listed) -> ListNumbers
-    ensures { result ≡ list_numbers listed }
-{
-    match listed {
-        Listed::Bytes(count) => ListNumbers {
-            number: 0,
-            place: 0,
-            entries: (count / 5) as u64,
-        },
-        Listed::Refused { number, place } => ListNumbers {
-            number: number as u64,
-            place: place as u64,
-            entries: 0,
-        },
-    }
-}
-
-fn walk_numbers(
-    number: u64,
-    place: u64,
-    iterations: u64,
-    weight: u64,
-    bound: u64,
-    least: u64,
-    least_total: u64,
-    walked: u64,
-) -> WalkNumbers
-    ensures { result ≡ walk_numbers number place iterations weight bound least least_total walked }
-{
-    WalkNumbers {
-        number,
-        place,
-        iterations,
-        weight,
-        bound,
-        least,
-        least_total,
-        walked,
-    }
-}
-
-pub fn of_walk(walk: WalkAnswer) -> WalkNumbers
-    ensures { walk_values result ≡ said walk }
-{
-    match walk {
-        WalkAnswer::Walked {
-            iterations,
-            weight,
-            bound,
-            least,
-            least_total,
-            walked,
-        } => walk_numbers(0, 0, iterations, weight, bound, least, least_total, walked),
-        WalkAnswer::Refused { number, place } => {
-            walk_numbers(number as u64, place as u64, 0, 0, 0, 0, 0, 0)
+    fn from(refusal: Refusal) -> FormAnswer {
+        FormAnswer {
+            number: refusal.fault as u64,
+            place: refusal.place as u64,
         }
     }
 }
 
-fn sweep_numbers(
-    number: u64,
-    place: u64,
-    iterations: u64,
-    weight: u64,
-    bound: u64,
-    least: u64,
-    least_total: u64,
-    kept: u64,
-) -> SweepNumbers
-    ensures { result ≡ sweep_numbers number place iterations weight bound least least_total kept }
-{
-    SweepNumbers {
-        number,
-        place,
-        iterations,
-        weight,
-        bound,
-        least,
-        least_total,
-        kept,
+impl From<Result<(), Refusal>> for FormAnswer {
+    ghost from_gives = { λ verdict answer. answer ≡ verdict_answer (verdict_of verdict) };
+
+    fn from(verdict: Result<(), Refusal>) -> FormAnswer {
+        match verdict {
+            Ok(()) => FormAnswer::default(),
+            Err(refusal) => refusal.into(),
+        }
     }
 }
 
-pub fn of_sweep(sweep: SweepAnswer) -> SweepNumbers
-    ensures { sweep_values result ≡ sweep_said sweep }
-{
-    match sweep {
-        SweepAnswer::Routed {
-            iterations,
-            weight,
-            bound,
-            least,
-            least_total,
-            kept,
-        } => sweep_numbers(0, 0, iterations, weight, bound, least, least_total, kept),
-        SweepAnswer::Refused { number, place } => {
-            sweep_numbers(number as u64, place as u64, 0, 0, 0, 0, 0, 0)
+impl From<Result<usize, Refusal>> for FormAnswer {
+    ghost from_gives = { λ written answer. answer ≡ written_answer (written_of written) };
+
+    fn from(written: Result<usize, Refusal>) -> FormAnswer {
+        match written {
+            Ok(bytes) => FormAnswer {
+                place: bytes as u64,
+                ..FormAnswer::default()
+            },
+            Err(refusal) => refusal.into(),
+        }
+    }
+}
+
+impl From<Result<u64, Refusal>> for CountAnswer {
+    ghost from_gives = { λ counted answer. count_values answer ≡ count_said counted };
+
+    fn from(counted: Result<u64, Refusal>) -> CountAnswer {
+        match counted {
+            Ok(count) => CountAnswer {
+                iterations: count,
+                ..CountAnswer::default()
+            },
+            Err(Refusal { fault, place }) => CountAnswer {
+                number: fault as u64,
+                place: place as u64,
+                ..CountAnswer::default()
+            },
+        }
+    }
+}
+
+impl From<Result<usize, Refusal>> for ListNumbers {
+    ghost from_gives = { λ listed answer. answer ≡ list_numbers (listed_of listed) };
+
+    fn from(listed: Result<usize, Refusal>) -> ListNumbers {
+        match listed {
+            Ok(bytes) => ListNumbers {
+                entries: (bytes / 5) as u64,
+                ..ListNumbers::default()
+            },
+            Err(Refusal { fault, place }) => ListNumbers {
+                number: fault as u64,
+                place: place as u64,
+                ..ListNumbers::default()
+            },
+        }
+    }
+}
+
+impl From<Result<Walked, Refusal>> for WalkNumbers {
+    ghost from_gives = { λ walk answer. walk_values answer ≡ said walk };
+
+    fn from(walk: Result<Walked, Refusal>) -> WalkNumbers {
+        match walk {
+            Ok(walked) => WalkNumbers {
+                iterations: walked.totals.iterations,
+                weight: walked.totals.weight,
+                bound: walked.totals.bound,
+                least: walked.totals.least,
+                least_total: walked.totals.least_total,
+                walked: walked.walked,
+                ..WalkNumbers::default()
+            },
+            Err(Refusal { fault, place }) => WalkNumbers {
+                number: fault as u64,
+                place: place as u64,
+                ..WalkNumbers::default()
+            },
+        }
+    }
+}
+
+impl From<Result<Routed, Refusal>> for SweepNumbers {
+    ghost from_gives = { λ sweep answer. sweep_values answer ≡ sweep_said sweep };
+
+    fn from(sweep: Result<Routed, Refusal>) -> SweepNumbers {
+        match sweep {
+            Ok(routed) => SweepNumbers {
+                iterations: routed.totals.iterations,
+                weight: routed.totals.weight,
+                bound: routed.totals.bound,
+                least: routed.totals.least,
+                least_total: routed.totals.least_total,
+                kept: routed.kept,
+                ..SweepNumbers::default()
+            },
+            Err(Refusal { fault, place }) => SweepNumbers {
+                number: fault as u64,
+                place: place as u64,
+                ..SweepNumbers::default()
+            },
         }
     }
 }

@@ -3,70 +3,75 @@
 #![tactic(auto)]
 
 ghost use Rattle.std.specs.Prelude.{◌≡◌};
-ghost use Rattle.std.specs.Int.Signed.{lt_z};
 ghost use Rattle.lower_laws.specs.PairTest.{low, level, high, apart, some_of};
 ghost use Rattle.pair.specs.Pair.{conflicting};
 
-// Whether the numbers below the constant meet the relation to it.
-fn low(relation: u8) -> bool
-    ensures { result ≡ low relation }
-{
-    (relation == 1) | ((relation == 2) | (relation == 5))
+// A choice among the numbers below a constant, the constant itself and the numbers above it.
+#[derive(Clone, Copy)]
+struct Sides {
+    below: bool,
+    level: bool,
+    above: bool,
 }
 
-// Whether the constant meets it.
-fn level(relation: u8) -> bool
-    ensures { result ≡ level relation }
-{
-    (relation == 0) | ((relation == 3) | (relation == 5))
+// Those that meet the relation to the constant; a number above 5 is no relation, and nothing meets it.
+impl From<u8> for Sides {
+    ghost from_gives = { λ relation sides. (sides.below ≡ low relation)
+        × (sides.level ≡ level relation) × (sides.above ≡ high relation) };
+
+    fn from(relation: u8) -> Sides {
+        Sides {
+            below: relation == 1 || relation == 2 || relation == 5,
+            level: relation == 0 || relation == 3 || relation == 5,
+            above: relation == 1 || relation == 3 || relation == 4,
+        }
+    }
 }
 
-// Whether the numbers above the constant meet it.
-fn high(relation: u8) -> bool
-    ensures { result ≡ high relation }
-{
-    (relation == 1) | ((relation == 3) | (relation == 4))
+impl Sides {
+    // Whether both have one in common. Kept without branches: with && and ||, and with matches! above, the pair test
+    // takes twice as long.
+    fn overlaps(self, other: Sides) -> bool
+        ensures { result ≡ some_of self.below self.level self.above other.below other.level other.above }
+    {
+        (self.below & other.below) | (self.level & other.level) | (self.above & other.above)
+    }
 }
 
-fn before(a: i32, b: i32) -> bool
-    ensures { result ≡ lt_z a b }
-{
-    a < b
-}
-
-// Whether a whole number lies between a and b: where a is below b, b has a predecessor.
+// Whether a whole number lies between a and b.
 fn apart(a: i32, b: i32) -> bool
     ensures { result ≡ apart a b }
 {
-    if a < b { a < b - 1 } else { false }
-}
-
-fn some_of(p: bool, q: bool, s: bool, x: bool, y: bool, z: bool) -> bool
-    ensures { result ≡ some_of p q s x y z }
-{
-    (p & x) | ((q & y) | (s & z))
+    a < b && a < b - 1
 }
 
 // Whether no whole number has both relations, each to its constant.
 pub fn conflicting(relation1: u8, constant1: i32, relation2: u8, constant2: i32) -> bool
     ensures { result ≡ conflicting relation1 constant1 relation2 constant2 }
 {
-    let less = before(constant1, constant2);
-    let more = before(constant2, constant1);
-    let after = apart(constant1, constant2);
-    let ahead = apart(constant2, constant1);
-    let l = low(relation2);
-    let e = level(relation2);
-    let h = high(relation2);
-    let under = some_of(l, e, h, true, more, ahead);
-    let at = some_of(l, e, h, less, !less & !more, more);
-    let over = some_of(l, e, h, after, less, true);
-    !some_of(
-        low(relation1),
-        level(relation1),
-        high(relation1),
-        under,
-        at,
-        over,
-    )
+    let less = constant1 < constant2;
+    let more = constant2 < constant1;
+    let second = Sides::from(relation2);
+    // on which sides of the second constant the numbers below the first lie, the first itself, and those above it
+    let below = Sides {
+        below: true,
+        level: more,
+        above: apart(constant2, constant1),
+    };
+    let level = Sides {
+        below: less,
+        level: constant1 == constant2,
+        above: more,
+    };
+    let above = Sides {
+        below: apart(constant1, constant2),
+        level: less,
+        above: true,
+    };
+    let met = Sides {
+        below: second.overlaps(below),
+        level: second.overlaps(level),
+        above: second.overlaps(above),
+    };
+    !Sides::from(relation1).overlaps(met)
 }

@@ -27,7 +27,7 @@ use Rattle.sets.specs.Local.{local_of}
 use Rattle.sets.specs.Found.{sets_of, firsts_of, found_of}
 use Rattle.path_sets.specs.declared.Leads.{Leads}
 use Rattle.path_sets.specs.Parts.{Paths, ByPaths, led, LeadsOf, pairs, ListedAt, FirstsOf}
-use Rattle.path_sets.specs.Parts.{FirstsBy, FoundBy}
+use Rattle.path_sets.specs.Parts.{FirstsBy, FoundBy, sets_with, Listed, SetsBy}
 
 module _ (body : Body) (few : body.count ≤ 64) where
   -- ---- past the blocks nothing is in a set
@@ -189,24 +189,9 @@ module _ (body : Body) (sound : Sound body) where
             ∙ any_none b ∙ sym (listed_off b k g)
 
   -- ---- all of it, from what the blocks say by themselves
-  abbrev sets_with : Local → Edges → Sets
-  sets_with own x = record {
-    targets = own.targets;
-    touched = own.touched;
-    denied = own.denied;
-    jumping = own.jumping;
-    falling = own.falling;
-    listed = x;
-  }
-
-  -- the lists of clean paths, of the edges with a first below each block, and of the firsts, as the functions say
+  -- the lists of clean paths, and of the firsts, as the functions say
   abbrev Led : Local → Leads → Type 0
   Led own l = LeadsOf own.targets.jump own.targets.fall own.touched l
-
-  abbrev Listed : Local → Leads → Edges → Type 0
-  Listed own l x =
-      Told 0 (ListedAt l own.denied.jump own.jumping.jump own.falling.jump) 64 64 x.jump
-      × Told 0 (ListedAt l own.denied.fall own.jumping.fall own.falling.fall) 64 64 x.fall
 
   abbrev Paired : Local → Leads → (jumped fallen : Firsts) → Type 0
   Paired own l jumped fallen =
@@ -214,7 +199,8 @@ module _ (body : Body) (sound : Sound body) where
       × FirstsOf l own.denied.fall own.jumping.fall own.falling.fall fallen
 
   module _ (l : Leads) where
-    sets_own : (x : Edges) → Led (local_of body) l → Listed (local_of body) l x → sets_with (local_of body) x ≡ sets_of body
+    sets_own : (x : Edges) → Led (local_of body) l → Listed (local_of body) l x
+        → sets_with (local_of body) x ≡ sets_of body
     unfolding local_of sets_of
     sets_own x leads of = λ i. record {
       targets = (local_of body).targets;
@@ -228,10 +214,10 @@ module _ (body : Body) (sound : Sound body) where
       };
     }
 
-    pub sets_are : (own : Local) → own ≡ local_of body → (x : Edges) → Led own l → Listed own l x
-        → sets_with own x ≡ sets_of body
-    sets_are own is x = subst (λ (w : Local). Led w l → Listed w l x → sets_with w x ≡ sets_of body) (sym is)
-        (sets_own x)
+    pub sets_are : (own : Local) → own ≡ local_of body → (r : Sets) → Led own l → SetsBy own l r → r ≡ sets_of body
+    sets_are own is r leads by = by.0 ∙ subst
+        (λ (w : Local). Led w l → Listed w l r.listed → sets_with w r.listed ≡ sets_of body) (sym is)
+        (sets_own r.listed) leads by.1
 
     module _ (sets : Sets) (jumped fallen : Firsts) where
       abbrev found_with : Local → Found

@@ -6,10 +6,25 @@ use Rattle.words.specs.Filled.{Told}
 use Rattle.form.specs.declared.Body.{Body}
 use Rattle.form.specs.Conflict.{block, assigned}
 use Rattle.lower_laws.specs.Joined.{by_way}
+use Rattle.sets.specs.declared.Edges.{Edges}
+use Rattle.sets.specs.declared.Local.{Local}
 use Rattle.sets.specs.declared.Firsts.{Firsts}
+use Rattle.sets.specs.declared.Sets.{Sets}
 use Rattle.sets.specs.declared.Found.{Found}
 use Rattle.sets.specs.Local.{Above}
 use Rattle.path_sets.specs.declared.Leads.{Leads}
+use Rattle.path_sets.specs.declared.Outcome.{Outcome}
+use Rattle.path_sets.specs.declared.Outcome.TheVariants.{Jump, Fall}
+
+-- the way's number in document 01
+abbrev pub way_number : Outcome → ℕ
+way_number Jump = 1
+way_number Fall = 2
+
+-- for each block, those of its set that are edges by one way
+abbrev pub by : Outcome → Edges → List ℕ
+by Jump edges = edges.jump
+by Fall edges = edges.fall
 
 -- ---- clean paths
 
@@ -69,6 +84,25 @@ pub record FirstsOf (l : Leads) (denied jumping falling : List ℕ) (p : Firsts)
   pub assigned : Told 0 (BothAt denied l.ahead) 64 64 p.assigned
   pub jumps : Told 0 (BothAt jumping l.jump) 64 64 p.jump
   pub falls : Told 0 (BothAt falling l.fall) 64 64 p.fall
+
+-- what blocks say by themselves, and the edges that have a first below each block
+abbrev pub sets_with : Local → Edges → Sets
+sets_with own x = record {
+  targets = own.targets;
+  touched = own.touched;
+  denied = own.denied;
+  jumping = own.jumping;
+  falling = own.falling;
+  listed = x;
+}
+
+abbrev pub Listed : Local → Leads → Edges → Type 0
+Listed own l x =
+    Told 0 (ListedAt l own.denied.jump own.jumping.jump own.falling.jump) 64 64 x.jump
+    × Told 0 (ListedAt l own.denied.fall own.jumping.fall own.falling.fall) 64 64 x.fall
+
+abbrev pub SetsBy : Local → Leads → Sets → Type 0
+SetsBy own l r = (r ≡ sets_with own r.listed) × Listed own l r.listed
 
 -- ---- what is found of a body
 

@@ -1,14 +1,14 @@
 -- What an accepted form's body owes the walks, and that what a call owes leaves one outcome. Rests on Owed, Plan and
 -- roundtrip's Sound.
-use Rattle.std.specs.Prelude.{◌≡◌, List, ℕ, ◌*◌, ◌<◌, ◌≤◌}
+use Rattle.std.specs.Prelude.{◌≡◌, List, ℕ, ◌*◌, ◌<◌, ◌≤◌, Result, Ok, Err}
 use Rattle.std.proofs.Common.{sym, ap, subst, ◌∙◌, le_trans, le_of_lt, lt_of_le_of_lt, mul-le-mul_left, mul-le-mul_right, arith, lit<, Fits}
 use Rattle.std.specs.Int.{w64}
-use Rattle.form.specs.declared.Verdict.TheVariants.{Accepted}
+use Rattle.form.specs.Said.{Accepted}
+use Rattle.form.specs.Said.{number_of}
 use Rattle.form.specs.Form.{judge, body_of}
 use Rattle.form.specs.Conflict.{block}
 use Rattle.form.specs.declared.Counter.{Counter}
-use Rattle.counter.specs.declared.Counted.{Counted}
-use Rattle.counter.specs.declared.Counted.TheVariants.{Iterations, Refused as NoCount}
+use Rattle.form.specs.declared.Refusal.{Refusal}
 use Rattle.counter.specs.Answer.{Values, said, Owed as OwedCount}
 use Rattle.counter.specs.Answer.Owed.{no_relation, no_count as without, counted as with_count}
 use Rattle.lower_laws.specs.Loops.{count_once}
@@ -45,7 +45,7 @@ module _ {A : Type 0} (s : List ℕ) (refused_by : ℕ → ℕ → A) (with : �
 
 -- ---- from the counter's answer
 
-abbrev pub CounterOwed : Counter → Counted → Type 0
+abbrev pub CounterOwed : Counter → Result ℕ Refusal → Type 0
 CounterOwed counter answer =
     OwedCount counter.initial counter.step counter.relation counter.limit (said answer)
 
@@ -53,15 +53,15 @@ module _ (s : List ℕ) (a : judge s ≡ Accepted) where
   known : 5 < (body_of s).counter.relation → ⊥
   known h = omega (arith, (well_formed s a).relation)
 
-  pub no_count_owed : (number place : ℕ) → CounterOwed (body_of s).counter (NoCount number place)
-      → ((k : ℕ) → CountOf (body_of s).counter k → ⊥) × (number ≡ 20) × (place ≡ 0)
-  no_count_owed number place (no_relation h e) = absurd (known h)
-  no_count_owed number place (without l never e) =
+  pub no_count_owed : (r : Refusal) → CounterOwed (body_of s).counter (Err r)
+      → ((k : ℕ) → CountOf (body_of s).counter k → ⊥) × (number_of r.fault ≡ 20) × (r.place ≡ 0)
+  no_count_owed r (no_relation h e) = absurd (known h)
+  no_count_owed r (without l never e) =
       (never, ap (λ (v : Values). v.number) e, ap (λ (v : Values). v.place) e)
-  no_count_owed number place (with_count l k c e) =
+  no_count_owed r (with_count l k c e) =
       absurd (omega (arith, c.enough, ap (λ (v : Values). v.iterations) e))
 
-  pub count_owed : (k : ℕ) → CounterOwed (body_of s).counter (Iterations k) → CountOf (body_of s).counter k
+  pub count_owed : (k : ℕ) → CounterOwed (body_of s).counter (Ok k) → CountOf (body_of s).counter k
   count_owed k (no_relation h e) = absurd (known h)
   count_owed k (without l never e) = absurd (omega (arith, ap (λ (v : Values). v.number) e))
   count_owed k (with_count l j c e) = subst (CountOf (body_of s).counter) (sym (ap (λ (v : Values). v.iterations) e)) c

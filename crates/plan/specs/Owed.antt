@@ -6,7 +6,7 @@ use Rattle.std.specs.Prelude.{◌≡◌, List, ◌++◌, ℕ, ◌*◌, take, dro
 use Rattle.laws.specs.Terms.{Choice, chosen}
 use Rattle.form.specs.declared.Body.{Body}
 use Rattle.form.specs.declared.Counter.{Counter}
-use Rattle.form.specs.declared.Verdict.TheVariants.{Accepted, Refused}
+use Rattle.form.specs.Said.{Accepted, Refused}
 use Rattle.form.specs.Form.{judge, body_of}
 use Rattle.form.specs.Counter.{Count}
 use Rattle.theory.specs.Route.{Routes, bound_of, route_bytes}

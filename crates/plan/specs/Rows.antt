@@ -1,6 +1,7 @@
 -- A list whose rows are those of a sound body's sets is its plan. Rests on Plan, and on sets' Found, whose words the
 -- rows are.
 use Rattle.std.specs.Prelude.{Bool, cond, ◌&&◌, ℕ, zero, suc, ◌+◌, ◌*◌, ◌≤◌, ◌<◌, eqb, length, get_or}
+use Rattle.std.specs.Int.{from_bool}
 use Rattle.std.proofs.Math.Bool.{true, false}
 use mathlib.Core.List.{List, [], ◌∷◌, ◌++◌}
 use Rattle.std.proofs.Common.{inl, inr, ⊎_elim, sym, ◌∙◌, arith, lt-ltb, get_or-take}
@@ -13,7 +14,6 @@ use Rattle.form.specs.declared.Body.{Body}
 use Rattle.form.specs.Conflict.{Edge, block, exits_by, exits, way_to, is_test, condition, touches, opposes, denies, listed, conflicts, Sound, no_block}
 use Rattle.lower_laws.specs.Endings.{by_exits}
 use Rattle.lower_laws.specs.Joined.{past_count, no_test, denies_test, opposes_test, listed_none}
-use Rattle.form.specs.Form.{when}
 use Rattle.sets.specs.declared.Sets.{Sets}
 use Rattle.sets.specs.Local.{local_of}
 use Rattle.sets.specs.Found.{sets_of}
@@ -41,9 +41,9 @@ row_at body b =
     ∷ (block body b).cost
     ∷ 0 ∷ 0 ∷ 0 ∷ []
 
--- the same from a body's sets and the block itself, with the three words that nothing uses
-abbrev pub row_with : Sets → Block → ℕ → (test : ℕ) → List ℕ
-row_with sets k b test =
+-- the same from a body's sets and what the block itself says, with the three words that nothing uses
+abbrev pub row_with : Sets → (b test cost : ℕ) → List ℕ
+row_with sets b test cost =
     test
     ∷ get_or sets.targets.jump b 0
     ∷ get_or sets.targets.fall b 0
@@ -56,11 +56,15 @@ row_with sets k b test =
     ∷ get_or sets.falling.fall b 0
     ∷ get_or sets.listed.jump b 0
     ∷ get_or sets.listed.fall b 0
-    ∷ k.cost
+    ∷ cost
     ∷ 0 ∷ 0 ∷ 0 ∷ []
 
 abbrev pub row_from : Sets → Block → ℕ → List ℕ
-row_from sets k b = row_with sets k b (when (eqb k.ending 3) 1 0)
+row_from sets k b = row_with sets b (from_bool (eqb k.ending 3)) k.cost
+
+-- row b from the sets and the body
+abbrev pub row_of : Sets → Body → ℕ → List ℕ
+row_of sets body b = row_from sets (get_or body.blocks b no_block) b
 
 -- ---- rows in the plan
 
@@ -68,8 +72,9 @@ row_from sets k b = row_with sets k b (when (eqb k.ending 3) 1 0)
 abbrev pub Rows : (ℕ → List ℕ) → ℕ → List ℕ → Type 0
 Rows row b plan = (c w : ℕ) → c < b → w < 16 → word_at plan c w ≡ get_or (row c) w 0
 
+-- and the row of block b
 pub rows_more :
-    (row : ℕ → List ℕ) (b : ℕ) (plan new words : List ℕ) → Adds plan (16 * b) new (16 * b + 16) words
+    (row : ℕ → List ℕ) (b : ℕ) (plan new words : List ℕ) → Adds plan (16 * b) new (16 * b + length words) words
     → length words ≡ 16 → 16 * b + 16 ≤ length plan → words ≡ row b → Rows row b plan → Rows row (b + 1) new
 rows_more row b plan new words adds size room e read c w h l = ⊎_elim before here (below_or_not c b)
   where
@@ -91,11 +96,11 @@ module _ (body : Body) (b : ℕ) (h : b < 64) where
   unfolding rows
   on f = at (λ c. set_of 64 (f c))
 
-  test_is : (k : Block) → k ≡ block body b → ◌≡◌ {A = ℕ} (when (eqb k.ending 3) 1 0) (cond (is_test body b) 1 0)
+  test_is : (k : Block) → k ≡ block body b → ◌≡◌ {A = ℕ} (from_bool (eqb k.ending 3)) (cond (is_test body b) 1 0)
   unfolding is_test
-  test_is k e = ap {B = ℕ} (λ (x : Block). when (eqb x.ending 3) 1 0) e ∙ alike (eqb (block body b).ending 3)
+  test_is k e = ap (λ (x : Block). from_bool (eqb x.ending 3)) e ∙ alike (eqb (block body b).ending 3)
     where
-      alike : (t : Bool) → ◌≡◌ {A = ℕ} (when t 1 0) (cond t 1 0)
+      alike : (t : Bool) → ◌≡◌ {A = ℕ} (from_bool t) (cond t 1 0)
       alike true = refl
       alike false = refl
 
@@ -243,7 +248,7 @@ block_is body b h = sym (get_or-take body.count body.blocks b no_block h)
 -- what the loop has at its end is the plan
 pub planned_rows :
     (body : Body) (g : Sound body) (plan : List ℕ) → length plan ≡ 1024 → (sets : Sets) → sets ≡ sets_of body
-    → Rows (λ c. row_from sets (get_or body.blocks c no_block) c) 64 plan → Planned body (step_cost body) plan
+    → Rows (row_of sets body) 64 plan → Planned body (step_cost body) plan
 planned_rows body g plan size sets e r =
     planned body g plan size
     (λ b w h l.

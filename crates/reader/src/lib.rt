@@ -2,84 +2,54 @@
 // function means is in form's Form and Answer.
 #![tactic(auto)]
 
-ghost use Rattle.std.specs.Prelude.{◌≡◌, ◌+◌, ◌<◌, ◌^◌};
-ghost use Rattle.form.specs.Form.{records_from, own_effects, zero_block, zero_effect, body_of, zero_body};
-ghost use Rattle.form.specs.Answer.{ReadAs};
+ghost use Rattle.std.specs.Prelude.{◌≡◌};
+ghost use Rattle.form.specs.Form.{records_from, own_effects, body_of};
+ghost use Rattle.form.specs.Answer.{reading_of, ReadAs};
 
-use form::{Block, Body, Counter, Effect, Reading};
-use records::{BLOCK, EFFECT};
+use form::{Block, Body, Effect, Kind, MOST_BLOCKS, MOST_EFFECTS, Refusal};
+use records::{Record, Records};
 
-// How many effects stand from `start` on before the next block or the end.
-fn own_effects(s: &[u8], start: usize) -> usize
-    requires { start < 2 ^ 63 + 32 }
-    ensures { result ≡ own_effects s.now (records_from s.now start) }
+// How many effects stand first of these records, before the next block or the end. (A loop, since a chain of
+// `take_while` and `count` was tried, and the check leaves all of its result to prove.)
+fn own_effects(after: Records) -> usize
+    ensures { result ≡ own_effects after.entry.form.now (records_from after.entry.form.now after.entry.at) }
 {
-    let mut at = start;
     let mut n = 0;
-    while at < s.len() {
-        let kind = records::kind_at(s, at);
-        if kind.role != EFFECT {
-            return n;
+    for record in after {
+        match record.kind() {
+            Kind::Effect => n += 1,
+            _ => return n,
         }
-        n += 1;
-        at += kind.length as usize;
     }
     n
 }
 
-fn zero_block() -> Block
-    ensures { result ≡ zero_block }
-{
-    Block {
-        cost: 0,
-        ending: 0,
-        jump: 0,
-        fall: 0,
-        variable: 0,
-        relation: 0,
-        constant: 0,
-        effects: 0,
-    }
-}
-
-fn zero_effect() -> Effect
-    ensures { result ≡ zero_effect }
-{
-    Effect {
-        variable: 0,
-        how: 0,
-        constant: 0,
-    }
-}
-
-// The body of an accepted form.
+// The body of an accepted form. (Arrays with a count beside them, since document 01's scope names a body so.)
 fn body_of(s: &[u8]) -> Body
     ensures { result ≡ body_of s.now }
 {
-    let counter = records::counter_at(s, 0);
-    let mut blocks = [zero_block(); 64];
+    let first = Record { form: s, at: 0 };
+    let counter = first.counter();
+    let mut blocks = [Block::default(); 64];
     let mut count = 0;
-    let mut effects = [zero_effect(); 256];
+    let mut effects = [Effect::default(); 256];
     let mut total = 0;
-    let mut at = 0;
-    while at < s.len() {
-        let kind = records::kind_at(s, at);
-        let next = at + kind.length as usize;
-        if kind.role == BLOCK {
-            let block = records::block_at(s, at, own_effects(s, next));
-            if count < 64 {
-                blocks[count] = block;
+    for record in records::of(s) {
+        match record.kind() {
+            Kind::Block => {
+                if count < MOST_BLOCKS {
+                    blocks[count] = record.block(own_effects(record.after()));
+                }
+                count += 1;
             }
-            count += 1;
-        }
-        if kind.role == EFFECT {
-            let effect = records::effect_at(s, at);
-            if total < 256 {
-                effects[total] = effect;
+            Kind::Effect => {
+                if total < MOST_EFFECTS {
+                    effects[total] = record.effect();
+                }
+                total += 1;
             }
-            total += 1;
+            _ => {}
         }
-        at = next;
     }
     Body {
         counter,
@@ -90,35 +60,10 @@ fn body_of(s: &[u8]) -> Body
     }
 }
 
-fn zero_body() -> Body
-    ensures { result ≡ zero_body }
+// The reader, for any bytes: the body of an accepted form, else why it is none.
+pub fn read(s: &[u8]) -> Result<Body, Refusal>
+    ensures { ReadAs s.now (reading_of result) }
 {
-    let counter = Counter {
-        initial: 0,
-        step: 0,
-        relation: 0,
-        limit: 0,
-    };
-    let blocks = [zero_block(); 64];
-    let effects = [zero_effect(); 256];
-    Body {
-        counter,
-        count: 0,
-        blocks,
-        total: 0,
-        effects,
-    }
-}
-
-// The reader, for any bytes: the verdict, and the body of an accepted form.
-pub fn read(s: &[u8]) -> Reading
-    ensures { ReadAs s.now result }
-{
-    let verdict = verdict::judge(s);
-    if verdict::accepts(verdict) {
-        let body = body_of(s);
-        return Reading { verdict, body };
-    }
-    let body = zero_body();
-    Reading { verdict, body }
+    verdict::judge(s)?;
+    Ok(body_of(s))
 }

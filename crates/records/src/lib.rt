@@ -1,144 +1,187 @@
-// The records of an order form, decoded: the numbers at a place of the bytes, a record's kind, and the record read as a
-// counter, a block or an effect. Offsets of fields stand here and where a record is laid out (crate layout), and
-// nowhere else. What each function means is in form's Form.
+// The records of an order form, one after the other, and each decoded: its kind, and the record read as a counter, a
+// block or an effect. Offsets of fields stand here and where a record is laid out (crate layout), and nowhere else.
+// What each function means is in form's Form.
 #![tactic(auto)]
 
-ghost use Rattle.std.specs.Prelude.{◌≡◌, ◌+◌, ◌<◌, ◌≤◌, ◌^◌, length};
-ghost use Rattle.std.specs.Int.{w32};
-ghost use Rattle.std.proofs.Common.{to_z};
-ghost use Rattle.form.specs.Form.{byte_at, number2, number4, signed4, kind_of, kind_at, counter_at, block_at, effect_at};
+ghost use Rattle.std.specs.Prelude.{◌≡◌, ◌+◌, ◌<◌, ◌≤◌, ◌^◌};
+ghost use Rattle.form.specs.Said.{row_of};
+ghost use Rattle.form.specs.Form.{byte_at, number2, number4, signed4, length_at, kind_of, kind_at};
+ghost use Rattle.form.specs.Form.{counter_at, block_at, effect_at};
 
 use form::{Block, Counter, Effect, Kind};
 
-// What a record is: the roles of the table of kinds.
-pub const UNKNOWN: u32 = 0;
-
-pub const COUNTER: u32 = 1;
-
-pub const BLOCK: u32 = 2;
-
-pub const EFFECT: u32 = 3;
-
-// The byte at i, 0 past the end.
-fn byte_at(s: &[u8], i: usize) -> u8
-    ensures { result ≡ byte_at s.now i }
+// The kind of a number, by the table of kinds.
+#[tactic(auto, unfolding(form::specs::Form::kind_of))]
+fn kind_of(number: u16) -> Kind
+    ensures { row_of result ≡ kind_of number }
 {
-    if i < s.len() { s[i] } else { 0 }
-}
-
-fn wide(x: u8) -> u32
-    ensures { result ≡ x }
-{
-    x as u32
-}
-
-// The two bytes from i on as a number.
-pub fn short_at(s: &[u8], i: usize) -> u32
-    requires { i + 4 < 2 ^ 64 }
-    ensures { (result ≡ number2 s.now i) × (result < 65536) }
-{
-    wide(byte_at(s, i)) + 256 * wide(byte_at(s, i + 1))
-}
-
-// The four bytes from i on as a number.
-fn long_at(s: &[u8], i: usize) -> u32
-    requires { i + 8 < 2 ^ 64 }
-    ensures { result ≡ number4 s.now i }
-{
-    short_at(s, i) + 65536 * short_at(s, i + 2)
-}
-
-// The signed number whose 32 bits these are.
-fn signed_of(bits: u32) -> i32
-    ensures { result ≡ to_z w32 bits }
-{
-    if bits < 2147483648 {
-        return bits as i32;
+    match number {
+        1 => Kind::Counter,
+        2 => Kind::Block,
+        3 => Kind::Effect,
+        _ => Kind::Unknown,
     }
-    let below = (4294967295 - bits) as i32;
-    -1 - below
 }
 
-// The four bytes from i on as a signed number.
-fn signed_at(s: &[u8], i: usize) -> i32
-    requires { i + 8 < 2 ^ 64 }
-    ensures { result ≡ signed4 s.now i }
-{
-    signed_of(long_at(s, i))
+// A record: the form, and the place where it starts.
+#[derive(Clone, Copy)]
+pub struct Record<'a> {
+    pub form: &'a [u8],
+    pub at: usize,
 }
 
-// The table of kinds.
-fn kind_of(number: u32) -> Kind
-    ensures { result ≡ kind_of number }
+impl<'a> Record<'a> {
+    ghost use Rattle.form.specs.Records.{next};
+
+    // Its byte at i, 0 past the form's end. (A sum cut at the last usize is past the end too.)
+    fn byte(&self, i: usize) -> u8
+        ensures { result ≡ byte_at self.now.form.now (self.now.at + i) }
+    {
+        self.form
+            .get(self.at.saturating_add(i))
+            .copied()
+            .unwrap_or(0)
+    }
+
+    // Its two bytes from i on as a number.
+    fn short(&self, i: usize) -> u16
+        requires { i < 28 }
+        ensures { result ≡ number2 self.now.form.now (self.now.at + i) }
+    {
+        u16::from_le_bytes([self.byte(i), self.byte(i + 1)])
+    }
+
+    // Its four bytes from i on as a number.
+    fn long(&self, i: usize) -> u32
+        requires { i < 28 }
+        ensures { result ≡ number4 self.now.form.now (self.now.at + i) }
+    {
+        u32::from_le_bytes([
+            self.byte(i),
+            self.byte(i + 1),
+            self.byte(i + 2),
+            self.byte(i + 3),
+        ])
+    }
+
+    // Its four bytes from i on as a signed number.
+    fn signed(&self, i: usize) -> i32
+        requires { i < 28 }
+        ensures { result ≡ signed4 self.now.form.now (self.now.at + i) }
+    {
+        self.long(i).cast_signed()
+    }
+
+    // The length that it states.
+    pub fn stated_length(&self) -> usize
+        ensures { (result ≡ length_at self.now.form.now self.now.at) × (result < 65536) }
+    {
+        usize::from(self.short(0))
+    }
+
+    pub fn kind(&self) -> Kind
+        ensures { row_of result ≡ kind_at self.now.form.now self.now.at }
+    {
+        kind_of(self.short(2))
+    }
+
+    // The length of its kind; of what is no kind, that of a head.
+    pub fn length(&self) -> usize
+        ensures { (result ≡ (kind_at self.now.form.now self.now.at).length) × ((0 < result) × (result ≤ 17)) }
+    {
+        match self.kind() {
+            Kind::Unknown => 4,
+            Kind::Counter => 17,
+            Kind::Block => 17,
+            Kind::Effect => 10,
+        }
+    }
+
+    // The records after it. (It alone asks that the place be no last one: it gives the next one as a usize.)
+    pub fn after(&self) -> Records<'a>
+        requires { self.now.at + 17 < 2 ^ 64 }
+        ensures form { result.form.now ≡ self.now.form.now }
+        ensures at { result.at ≡ next self.now.form.now self.now.at }
+        ensures on { self.now.at < result.at }
+    {
+        Records {
+            form: self.form,
+            at: self.at + self.length(),
+        }
+    }
+
+    // The record read as a counter, as a block with this number of effects, as an effect.
+    pub fn counter(&self) -> Counter
+        ensures { result ≡ counter_at self.now.form.now self.now.at }
+    {
+        Counter {
+            initial: self.signed(4),
+            step: self.signed(8),
+            relation: self.byte(12),
+            limit: self.signed(13),
+        }
+    }
+
+    pub fn block(&self, own: usize) -> Block
+        ensures { result ≡ block_at self.now.form.now self.now.at own }
+    {
+        Block {
+            cost: self.long(4),
+            ending: self.byte(8),
+            jump: self.byte(9),
+            fall: self.byte(10),
+            variable: self.byte(11),
+            relation: self.byte(12),
+            constant: self.signed(13),
+            effects: own,
+        }
+    }
+
+    pub fn effect(&self) -> Effect
+        ensures { result ≡ effect_at self.now.form.now self.now.at }
+    {
+        Effect {
+            variable: self.byte(4),
+            how: self.byte(5),
+            constant: self.signed(6),
+        }
+    }
+}
+
+// The records of a form from a place on, one after the other: each starts where the one before it ends.
+#[derive(Clone, Copy)]
+pub struct Records<'a> {
+    pub form: &'a [u8],
+    pub at: usize,
+}
+
+// The records of the whole form.
+pub fn of(form: &[u8]) -> Records<'_>
+    ensures form { result.form.now ≡ form.now }
+    ensures at { result.at ≡ 0 }
 {
-    if number == 1 {
-        return Kind {
-            length: 17,
-            role: COUNTER,
+    Records { form, at: 0 }
+}
+
+impl<'a> Iterator for Records<'a> {
+    ghost use Rattle.std.specs.Iterator.{at_most};
+    ghost use Rattle.records.specs.Steps.{left, Steps};
+
+    type Item = Record<'a>;
+
+    ghost next_gives = { Steps };
+
+    ghost remaining = { λ records. at_most (left records) };
+
+    fn next(&mut self) -> Option<Record<'a>> {
+        if self.form.len() <= self.at {
+            return None;
+        }
+        let record = Record {
+            form: self.form,
+            at: self.at,
         };
-    }
-    if number == 2 {
-        return Kind {
-            length: 17,
-            role: BLOCK,
-        };
-    }
-    if number == 3 {
-        return Kind {
-            length: 10,
-            role: EFFECT,
-        };
-    }
-    Kind {
-        length: 4,
-        role: UNKNOWN,
-    }
-}
-
-// The kind of the record at `at`.
-pub fn kind_at(s: &[u8], at: usize) -> Kind
-    requires { at + 32 < 2 ^ 64 }
-    ensures { (result ≡ kind_at s.now at) × ((0 < result.length) × (result.length ≤ 17)) }
-{
-    kind_of(short_at(s, at + 2))
-}
-
-// The record at `at`, read as a counter, as a block with this number of effects, as an effect.
-pub fn counter_at(s: &[u8], at: usize) -> Counter
-    requires { at + 32 < 2 ^ 64 }
-    ensures { result ≡ counter_at s.now at }
-{
-    Counter {
-        initial: signed_at(s, at + 4),
-        step: signed_at(s, at + 8),
-        relation: byte_at(s, at + 12),
-        limit: signed_at(s, at + 13),
-    }
-}
-
-pub fn effect_at(s: &[u8], at: usize) -> Effect
-    requires { at + 32 < 2 ^ 64 }
-    ensures { result ≡ effect_at s.now at }
-{
-    Effect {
-        variable: byte_at(s, at + 4),
-        how: byte_at(s, at + 5),
-        constant: signed_at(s, at + 6),
-    }
-}
-
-pub fn block_at(s: &[u8], at: usize, own: usize) -> Block
-    requires { at + 32 < 2 ^ 64 }
-    ensures { result ≡ block_at s.now at own }
-{
-    Block {
-        cost: long_at(s, at + 4),
-        ending: byte_at(s, at + 8),
-        jump: byte_at(s, at + 9),
-        fall: byte_at(s, at + 10),
-        variable: byte_at(s, at + 11),
-        relation: byte_at(s, at + 12),
-        constant: signed_at(s, at + 13),
-        effects: own,
+        *self = record.after();
+        Some(record)
     }
 }

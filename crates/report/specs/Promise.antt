@@ -1,23 +1,22 @@
 -- What follows from the report's promise: one text for every input (`one_report`), which hangs on the front of the
 -- input alone (`any_length`); and where there are ten lines, the walk refuses by 41 alone (`only_over`), and demand 3
 -- holds of the printed numbers (`report_holds`). Rests on Report, on what the two ways owe, and on roundtrip's Front.
-use Rattle.std.specs.Prelude.{Bool, true, false, cond, List, ◌⊎◌, ◌≡◌, refl, ℕ, ◌≤◌, ltb, length, take}
+use Rattle.std.specs.Prelude.{Bool, true, false, cond, List, ◌⊎◌, ◌≡◌, refl, ℕ, ◌≤◌, ltb, length, take, Result, Ok, Err}
 use Rattle.std.proofs.Common.{inl, inr, ap, sym, subst, ◌∙◌, arith, ltb-true, lit≤}
 use Rattle.std.proofs.Math.Option.{Option, none, some}
 use Rattle.laws.specs.Terms.{Choice, heaviest, lightest}
 use Rattle.form.specs.declared.Body.{Body}
-use Rattle.form.specs.declared.Verdict.TheVariants.{Accepted, Refused as Unread}
+use Rattle.form.specs.declared.Refusal.{Refusal}
+use Rattle.form.specs.Said.{Accepted, Refused as Unread, number_of}
 use Rattle.form.specs.Form.{judge, body_of}
 use Rattle.roundtrip.specs.Front.{front, front_all}
 use Rattle.roundtrip.specs.Sound.{sound}
 use Rattle.theory.specs.Route.{Routes, side_of, both_of, routes_on, bound_of, walked}
 use Rattle.plan.specs.Owed.{Owed, Values, refusal, bytes_needed}
 use Rattle.plan.specs.Owed.Owed.{no_form, no_count, counted}
-use Rattle.sweep_steps.specs.declared.SweepAnswer.{SweepAnswer}
-use Rattle.sweep_steps.specs.declared.SweepAnswer.TheVariants.{Routed, Refused as Unswept}
+use Rattle.sweep_steps.specs.declared.Routed.{Routed}
 use Rattle.sweep_steps.specs.Answer as sweep
-use Rattle.walk.specs.declared.WalkAnswer.{WalkAnswer}
-use Rattle.walk.specs.declared.WalkAnswer.TheVariants.{Refused}
+use Rattle.walk.specs.declared.Walked.{Walked}
 use Rattle.walk.specs.Answer as walk
 use Rattle.entries.specs.declared.Entry.{Entry}
 use Rattle.ways.specs.Answered.{sides_of, Answered, Bounds, answered_bounds, Agree, answered_agree}
@@ -32,30 +31,24 @@ use Rattle.report.specs.Report.Reported.{refused, reported}
 
 module _ (form : List ℕ) where
   pub one_report : (t u : List ℕ) → Reported form t → Reported form u → t ≡ u
-  one_report t u (refused n p route o e) (refused m q route' o' e') =
-      let same = (one_own form no_routes (Unswept n p) (Unswept m q) route route' o o').0 in
-      let number : n ≡ m = cc in
-      let place : p ≡ q = cc in
-      e ∙ ((λ i. refusal_line (number i) (place i)) ∙ sym e')
-  one_report t u (refused n p route o e) (reported i w b m l k route' o' a held x e') =
-      let same = (one_own form no_routes (Unswept n p) (Routed i w b m l k) route route' o o').0 in
-      let z : ◌≡◌ {A = ℕ} 0 1 = cc in
-      absurd (omega arith)
-  one_report t u (reported i w b m l k route o a held x e) (refused n q route' o' e') =
-      let same = (one_own form no_routes (Routed i w b m l k) (Unswept n q) route route' o o').0 in
-      let z : ◌≡◌ {A = ℕ} 0 1 = cc in
-      absurd (omega arith)
-  one_report t u (reported i w b m l k route o a held x e) (reported i' w' b' m' l' k' route' o' a' held' x' e') =
-      let both = one_own form no_routes (Routed i w b m l k) (Routed i' w' b' m' l' k') route route' o o' in
+  one_report t u (refused r route o e) (refused r' route' o' e') =
+      let same = (one_own form no_routes (Err r) (Err r') route route' o o').0 in
+      let one : r ≡ r' = cc in
+      e ∙ ((λ i. refusal_line (number_of (one i).fault) (one i).place) ∙ sym e')
+  one_report t u (refused r route o e) (reported s route' o' a held x e') =
+      let same = (one_own form no_routes (Err r) (Ok s) route route' o o').0 in
+      cc
+  one_report t u (reported s route o a held x e) (refused r route' o' e') =
+      let same = (one_own form no_routes (Ok s) (Err r) route route' o o').0 in
+      cc
+  one_report t u (reported s route o a held x e) (reported s' route' o' a' held' x' e') =
+      let both = one_own form no_routes (Ok s) (Ok s') route route' o o' in
       let same = both.0 in
+      let swept : s ≡ s' = cc in
       let walks : a ≡ a' = (one_walk form budget no_routes a a' held held' x x').0 in
-      let iterations : i ≡ i' = cc in
-      let weight : w ≡ w' = cc in
-      let bound : b ≡ b' = cc in
-      let least : m ≡ m' = cc in
-      let kept : k ≡ k' = cc in
       e
-      ∙ ((λ j. ten_lines (body_of form) (iterations j) (weight j) (bound j) (least j) (kept j) (both.1 j) (walks j))
+      ∙ ((λ j. ten_lines (body_of form) (swept j).totals.iterations (swept j).totals.weight (swept j).totals.bound
+      (swept j).totals.least (swept j).kept (both.1 j) (walks j))
       ∙ sym e')
 
 -- ---- the front of the input
@@ -79,13 +72,11 @@ module _ (s : List ℕ) (n : ℕ) (h : 3682 ≤ n) where
       owed_front (sweep.refused lent table) (λ body. sweep.sweep_outcome body (side_of body) lent table)
 
   pub any_length : (t : List ℕ) → Reported (take n s) t → Reported s t
-  any_length t (refused number place route (table, o) e) =
-      refused number place route
-      (table, sweep_front no_routes sweep.own_table (sweep.outcome_of (Unswept number place) route table) o) e
-  any_length t (reported i w b m l k route o a held x e) =
-      subst (λ (f : List ℕ). Reported f t)
-      (whole (own_answered (take n s) no_routes (Routed i w b m l k) route o refl).accepted)
-      (reported i w b m l k route o a held x e)
+  any_length t (refused r route (table, o) e) =
+      refused r route (table, sweep_front no_routes sweep.own_table (sweep.outcome_of (Err r) route table) o) e
+  any_length t (reported swept route o a held x e) =
+      subst (λ (f : List ℕ). Reported f t) (whole (own_answered (take n s) no_routes (Ok swept) route o refl).accepted)
+      (reported swept route o a held x e)
 
 -- ---- over
 
@@ -111,15 +102,15 @@ module _ (form : List ℕ) (a : judge form ≡ Accepted) (v : Routes) where
       let z : 0 ≡ k = ap (λ (x : walk.Outcome). x.0.iterations) e in absurd (omega arith)
 
 -- where the sweep answers, a walk's refusal is 41 with the budget
-pub only_over : (form : List ℕ) (most : ℕ) (answer : SweepAnswer) (routes : List ℕ)
+pub only_over : (form : List ℕ) (most : ℕ) (answer : Result Routed Refusal) (routes : List ℕ)
     → sweep.OwnTableOwed form no_routes answer routes → (sweep.said answer).number ≡ 0
-    → (number place : ℕ) (held : List ℕ) → walk.WalkOwed form most no_routes (walk.said (Refused number place), held)
+    → (number place : ℕ) (held : List ℕ) → walk.WalkOwed form most no_routes (refusal number place, held)
     → (number ≡ 41) × (place ≡ most)
 only_over form most answer routes o none_refused number place held owed =
     cases (own_answered form no_routes answer routes o none_refused) owed
   where
     cases : Answered form no_routes (sweep.said answer) routes
-        → walk.WalkOwed form most no_routes (walk.said (Refused number place), held) → (number ≡ 41) × (place ≡ most)
+        → walk.WalkOwed form most no_routes (refusal number place, held) → (number ≡ 41) × (place ≡ most)
     cases s (no_form m q j e) = let z : ◌≡◌ {A = ℕ} 0 1 = unlike (sym s.accepted ∙ j) in absurd (omega arith)
       where
         unlike : {m q : ℕ} → Accepted ≡ Unread m q → ◌≡◌ {A = ℕ} 0 1
@@ -138,7 +129,7 @@ only_over form most answer routes o none_refused number place held owed =
 pub record Holds (form text : List ℕ) : Type 0 where
   pub answer : Values
   pub routes : List ℕ
-  pub walks : WalkAnswer
+  pub walks : Result Walked Refusal
   pub held : List ℕ
   pub owed : walk.WalkOwed form budget no_routes (walk.said walks, held)
   pub printed : text ≡ ten_lines (body_of form) answer.iterations answer.weight answer.bound answer.least
@@ -150,10 +141,10 @@ pub record Holds (form text : List ℕ) : Type 0 where
 
 pub report_holds : (form text : List ℕ) → Reported form text
     → ((number : ℕ) × (place : ℕ) × (text ≡ refusal_line number place)) ⊎ Holds form text
-report_holds form text (refused number place route o e) = inl (number, place, e)
-report_holds form text (reported i w b m l k routes o a held x e) =
-    let answer = sweep.said (Routed i w b m l k) in
-    let swept = own_answered form no_routes (Routed i w b m l k) routes o refl in
+report_holds form text (refused r route o e) = inl (number_of r.fault, r.place, e)
+report_holds form text (reported swept routes o a held x e) =
+    let answer = sweep.said (Ok swept) in
+    let owed = own_answered form no_routes (Ok swept) routes o refl in
     inr (record {
       answer = answer;
       routes = routes;
@@ -161,8 +152,8 @@ report_holds form text (reported i w b m l k routes o a held x e) =
       held = held;
       owed = x;
       printed = e;
-      bounds = answered_bounds form no_routes answer routes swept;
-      total_is = swept.total_is lightest;
+      bounds = answered_bounds form no_routes answer routes owed;
+      total_is = owed.total_is lightest;
       agrees = λ z choice. answered_agree choice form no_routes no_routes (walk.said a) answer held routes
-          (walk_answered form budget no_routes (walk.said a, held) x z) swept;
+          (walk_answered form budget no_routes (walk.said a, held) x z) owed;
     })

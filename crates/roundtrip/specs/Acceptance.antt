@@ -12,8 +12,7 @@ use Rattle.std.proofs.Math.Dec.{leb, eqb}
 use Rattle.laws.specs.Tests.{split, clash, or_no}
 use Rattle.form.specs.declared.Block.{Block}
 use Rattle.form.specs.declared.Effect.{Effect}
-use Rattle.form.specs.declared.Verdict.{Verdict}
-use Rattle.form.specs.declared.Verdict.TheVariants.{Accepted, Refused}
+use Rattle.form.specs.Said.{Verdict, Accepted, Refused}
 use Rattle.form.specs.Form.{when, counter_role, block_role, effect_role, length_at, kind_number, kind_at, is_unknown}
 use Rattle.form.specs.Form.{is_counter, is_block, is_effect, counter_at, block_at, effect_at, records_from, stray, some_target}
 use Rattle.form.specs.Form.{bad_counter, bad_block, bad_effect, low_target, bad_field, bad_target, out_of_place, over_limit}

@@ -4,7 +4,7 @@
 use Rattle.std.specs.Prelude.{Bool, true, ◌&&◌, List, [], ◌∷◌, ◌≡◌, refl, ℕ, ltb}
 use Rattle.std.proofs.Common.{ltb-true}
 use Rattle.laws.specs.Tests.{and_out}
-use Rattle.form.specs.declared.Verdict.TheVariants.{Accepted, Refused}
+use Rattle.form.specs.Said.{Accepted, Refused}
 use Rattle.form.specs.Form.{kind_of, starts_for, records_from, bad_field, bad_target, out_of_place, over_limit, payload_fault}
 use Rattle.form.specs.Form.{record_fault, end_fault, judge_ends, judge_records, judge, body_of, lay}
 use Rattle.roundtrip.specs.laying.Digits.{Each, each_byte}

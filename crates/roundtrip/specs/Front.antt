@@ -6,8 +6,7 @@ use Rattle.std.proofs.Common.{ap, sym, ◌∙◌, add-zero, arith, ltb-true, ltb
 use Rattle.std.proofs.lemmas.Bool.{eqb-false}
 use Rattle.std.proofs.Math.Dec.{eqb}
 use Rattle.laws.specs.Tests.{split}
-use Rattle.form.specs.declared.Verdict.{Verdict}
-use Rattle.form.specs.declared.Verdict.TheVariants.{Accepted, Refused}
+use Rattle.form.specs.Said.{Verdict, Accepted, Refused}
 use Rattle.form.specs.Form.{when, byte_at, counter_role, block_role, effect_role, kind_of, length_at, kind_number, kind_at}
 use Rattle.form.specs.Form.{is_block, is_effect, one_if, records_from, bad_counter, bad_block, bad_effect, low_target, bad_field}
 use Rattle.form.specs.Form.{bad_target, out_of_place, over_limit, payload_fault, record_fault, judge_records, judge}

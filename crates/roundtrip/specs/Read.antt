@@ -2,9 +2,7 @@
 -- Rests on form's Answer and on Sound.
 use Rattle.std.specs.Prelude.{◌≡◌, List, ℕ}
 use Rattle.std.proofs.Common.{sym, ap, subst, ◌∙◌}
-use Rattle.form.specs.declared.Reading.{Reading}
-use Rattle.form.specs.declared.Verdict.{Verdict}
-use Rattle.form.specs.declared.Verdict.TheVariants.{Accepted}
+use Rattle.form.specs.Said.{Reading, Verdict, Accepted}
 use Rattle.form.specs.Form.{when, judge, body_of, zero_body}
 use Rattle.form.specs.Answer.{accepted, reading}
 use Rattle.form.specs.Conflict.{Sound}

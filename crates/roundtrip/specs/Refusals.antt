@@ -14,12 +14,7 @@ use Rattle.laws.specs.Tests.{clash}
 use Rattle.form.specs.declared.Block.{Block}
 use Rattle.form.specs.declared.Body.{Body}
 use Rattle.form.specs.declared.Effect.{Effect}
-use Rattle.form.specs.declared.Kind.{Kind}
-use Rattle.form.specs.declared.Reading.{Reading}
-use Rattle.form.specs.declared.Verdict.{Verdict}
-use Rattle.form.specs.declared.Verdict.TheVariants.{Accepted, Refused}
-use Rattle.form.specs.declared.Written.{Written}
-use Rattle.form.specs.declared.Written.TheVariants.{Bytes, Refused as Unwritten}
+use Rattle.form.specs.Said.{Kind, Reading, Verdict, Accepted, Refused, Written, Bytes, Unwritten}
 use Rattle.form.specs.Form.{when, kind_of, length_at, kind_at, is_unknown, is_block, is_effect, one_if, records_from, bad_field}
 use Rattle.form.specs.Form.{bad_target, out_of_place, over_limit, payload_fault, record_fault, bad_end, far_target, block_at}
 use Rattle.form.specs.Form.{end_fault, judged, judge_ends, judge_records, judge, lay_blocks, lay, counts_fit}

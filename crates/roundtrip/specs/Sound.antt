@@ -17,7 +17,7 @@ use Rattle.lower_laws.specs.Endings.{by_ending}
 use Rattle.form.specs.declared.Block.{Block}
 use Rattle.form.specs.declared.Effect.{Effect}
 use Rattle.form.specs.declared.Body.{Body}
-use Rattle.form.specs.declared.Verdict.TheVariants.{Accepted}
+use Rattle.form.specs.Said.{Accepted}
 use Rattle.form.specs.Form.{block_role, is_block, records_from, bad_end, far_target, end_fault, judge_ends, judge, gather}
 use Rattle.form.specs.Form.{own_effects, block_at, effect_at, blocks_in, effects_in, zero_block, zero_effect, fill, body_of}
 use Rattle.form.specs.Form.{sum_own, counts_fit}

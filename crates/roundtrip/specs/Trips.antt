@@ -4,11 +4,7 @@ use Rattle.std.specs.Prelude.{Bool, true, false, List, ◌++◌, ◌≡◌, refl
 use Rattle.std.proofs.Common.{ap, sym, subst, ◌∙◌, arith, length-take-le, take_at}
 use Rattle.laws.specs.Tests.{clash}
 use Rattle.form.specs.declared.Body.{Body}
-use Rattle.form.specs.declared.Reading.{Reading}
-use Rattle.form.specs.declared.Verdict.{Verdict}
-use Rattle.form.specs.declared.Verdict.TheVariants.{Accepted, Refused}
-use Rattle.form.specs.declared.Written.{Written}
-use Rattle.form.specs.declared.Written.TheVariants.{Bytes, Refused as Unwritten}
+use Rattle.form.specs.Said.{Reading, Verdict, Accepted, Refused, Written, Bytes, Unwritten}
 use Rattle.form.specs.Form.{when, counter_at, zero_block, zero_effect, body_with, body_of, zero_body, up_to_counts, lay}
 use Rattle.form.specs.Form.{counts_fit, judge}
 use Rattle.form.specs.Answer.{accepted, reading, as_judged, held_after}

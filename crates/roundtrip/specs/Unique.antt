@@ -6,10 +6,7 @@ use Rattle.std.proofs.Common.{ap, sym, ◌∙◌, arith, eqb-true}
 use Rattle.std.proofs.Math.Dec.{leb, eqb}
 use Rattle.laws.specs.Tests.{split, and_out}
 use Rattle.form.specs.declared.Body.{Body}
-use Rattle.form.specs.declared.Reading.{Reading}
-use Rattle.form.specs.declared.Verdict.{Verdict}
-use Rattle.form.specs.declared.Written.{Written}
-use Rattle.form.specs.declared.Written.TheVariants.{Bytes, Refused as Unwritten}
+use Rattle.form.specs.Said.{Reading, Verdict, Written, Bytes, Unwritten}
 use Rattle.form.specs.Form.{when, judge, counter_bytes, lay_blocks, lay, sum_own, counts_fit}
 use Rattle.form.specs.Answer.{accepted, Judged, reading, as_judged, held_after, Wrote}
 use Rattle.form.specs.Laying.{blocks_counted}

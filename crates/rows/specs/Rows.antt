@@ -1,15 +1,13 @@
 -- A row made of the rows of its targets, on the words of a plan: the tails by each way, one entry after another, into
--- the row under construction. Rests on entries' Entries and
--- Steps.
+-- the row under construction. Rests on entries' Entries and Steps.
 use Rattle.std.specs.Prelude.{◌≡◌, Bool, true, false, cond, eqb, get_or}
 use Rattle.std.proofs.Math.Path.{refl, ap}
-use Rattle.std.proofs.Common.{sym, ap₂, ◌∙◌, add-one}
+use Rattle.std.proofs.Common.{sym, subst, ◌∙◌, add-one}
 use mathlib.Core.List.{List, [], ◌∷◌}
 use Rattle.std.proofs.Math.Option.{Option, none, some}
-use Prim.Native.Nat.{ℕ, suc, ◌+◌, ◌*◌, ◌-◌, ◌^◌, ◌≤◌, ◌<◌}
-use Rattle.std.proofs.Math.Nat.{le_refl, le_trans, sub-zero}
-use borrow.Author.Tests.{eqb-true, eqb-false, eq-eqb, ne_eqb}
-use Rattle.std.specs.Int.Bits.{bit_or}
+use Prim.Native.Nat.{ℕ, suc, ◌+◌, ◌-◌, ◌^◌, ◌≤◌, ◌<◌}
+use Rattle.std.proofs.Math.Nat.{le_refl, le_trans}
+use borrow.Author.Tests.{eqb-true, eqb-false}
 use native.Mathlib.Omega.{arith}
 use Rattle.std.proofs.Math.ListN.{length, get_or-eq_default}
 use Rattle.laws.specs.Terms.{Choice, chosen}
@@ -18,10 +16,12 @@ use Rattle.laws.specs.Rows.{insert_grows}
 use Rattle.theory.specs.Row.{Key, key_before}
 use Rattle.theory.specs.Machine.{push, pour}
 use Rattle.rows.specs.declared.Half.{Half}
+use Rattle.rows.specs.declared.Step.{Step}
 use Rattle.theory.specs.Plan.{cost_at, IsWay}
-use Rattle.rows.specs.declared.Tails.{Tails}
-use Rattle.entries.specs.Entries.{Both, entry_at, inserted, entries_from, keep_both, Grown, entries_length}
-use Rattle.rows.specs.Steps.{half_of, hits_of, opened_of, step_key, step_both}
+use Rattle.entries.specs.declared.Entry.{Entry}
+use Rattle.entries.specs.Structs.{Both, no_entry}
+use Rattle.entries.specs.Entries.{entry_at, entries_from, keep_both, Grown, entries_length}
+use Rattle.rows.specs.Steps.{IsStep, half_of, step_key, step_both}
 
 -- the row with an entry's longer tail, or the row where the step drops it
 abbrev pub pushed : (jumps falls : Half) (cost : ℕ) → Key × Both → List (Key × Both) → List (Key × Both)
@@ -31,15 +31,15 @@ pushed jumps falls cost e r = push key_before keep_both (step_key jumps falls e.
 abbrev pub poured : (jumps falls : Half) (cost : ℕ) → List (Key × Both) → List (Key × Both) → List (Key × Both)
 poured jumps falls cost l r = pour key_before keep_both (step_key jumps falls) (step_both jumps falls cost) l r
 
--- the row of the target by a way, and how many entries it has; its entries
-abbrev pub source_of : (first second : List ℕ) → ℕ → List ℕ
-source_of first second way = cond (eqb way 1) first second
+-- the entries of the target's row by a way; the tails that they are
+abbrev pub source_of : (jumps falls : List Entry) → ℕ → List Entry
+source_of jumps falls way = cond (eqb way 1) jumps falls
 
-abbrev pub many_of : Tails → ℕ → ℕ
-many_of tails way = cond (eqb way 1) tails.jumps tails.falls
+abbrev pub tails_of : List Entry → List (Key × Both)
+tails_of entries = entries_from entries 0 (length entries)
 
-abbrev pub tails_by : Tails → (first second : List ℕ) → ℕ → List (Key × Both)
-tails_by tails first second way = entries_from (source_of first second way) 0 (many_of tails way)
+abbrev pub tails_by : (jumps falls : List Entry) → ℕ → List (Key × Both)
+tails_by jumps falls way = tails_of (source_of jumps falls way)
 
 module _ (plan : List ℕ) (b : ℕ) where
   -- the tails by one way
@@ -51,24 +51,20 @@ module _ (plan : List ℕ) (b : ℕ) where
   left_from tails way r = cond (eqb way 1) (poured_by 2 (tails 2) (poured_by 1 (tails 1) r))
       (cond (eqb way 2) (poured_by 2 (tails 2) r) r)
 
-  -- what making row b asks of the words: room for what is read, and weights that fit
-  pub record Ready (tails : Tails) (first second : List ℕ) : Type 0 where
-    pub size : length plan ≡ 1024
+  -- what making row b of its targets' entries asks: a block, and weights that fit
+  pub record Ready (jumps falls : List Entry) : Type 0 where
     pub below : b < 64
-    pub first_size : length first ≡ 512
-    pub second_size : length second ≡ 512
-    pub jumps_few : tails.jumps ≤ 64
-    pub falls_few : tails.falls ≤ 64
-    pub light : (choice : Choice) (way i : ℕ) → i < many_of tails way
-        → cost_at plan b way + (chosen choice (entry_at (source_of first second way) i).1).0 < 2 ^ 64
+    pub light : (choice : Choice) (way i : ℕ) → i < length (source_of jumps falls way)
+        → cost_at plan b way + (chosen choice (entry_at (source_of jumps falls way) i).1).0 < 2 ^ 64
 
-pub many_few : (plan : List ℕ) (b : ℕ) (tails : Tails) (first second : List ℕ) → Ready plan b tails first second →
-    (way : ℕ) → many_of tails way ≤ 64
-many_few plan b tails first second ready way = by (eqb way 1)
-  where
-    by : (c : Bool) → cond c tails.jumps tails.falls ≤ 64
-    by true = ready.jumps_few
-    by false = ready.falls_few
+-- a tail's weight fits with the step's cost, by what the code has of them
+pub light_in : (plan : List ℕ) (b : ℕ) (jumps falls : List Entry) → Ready plan b jumps falls → (way : ℕ) (step : Step)
+    → IsStep plan b way step → (tails : List Entry) → tails ≡ source_of jumps falls way → (choice : Choice) (i : ℕ)
+    → i < length tails → step.cost + (chosen choice (entry_at tails i).1).0 < 2 ^ 64
+light_in plan b jumps falls ready way step is tails e choice =
+    subst (λ (l : List Entry). (i : ℕ) → i < length l → step.cost + (chosen choice (entry_at l i).1).0 < 2 ^ 64) (sym e)
+    (λ i h. subst (λ (n : ℕ). n + (chosen choice (entry_at (source_of jumps falls way) i).1).0 < 2 ^ 64) (sym is.cost)
+    (ready.light choice way i h))
 
 -- ---- a row only grows
 
@@ -101,19 +97,19 @@ module _ (plan : List ℕ) (b : ℕ) (tails : ℕ → List (Key × Both)) where
 
 -- ---- a row under construction
 
--- the row holds n entries, and what is left to do with them gives the whole; the words past them are as they were
-pub record Filling (todo : List (Key × Both) → List (Key × Both)) (whole : List (Key × Both)) (old row : List ℕ)
+-- the row holds n entries, and what is left to do with them gives the whole; the entries past them are as they were
+pub record Filling (todo : List (Key × Both) → List (Key × Both)) (whole : List (Key × Both)) (old row : List Entry)
     (n : ℕ) : Type 0 where
   pub few : n ≤ 64
-  pub size : length row ≡ 512
+  pub size : length row ≡ 64
   pub left : todo (entries_from row 0 n) ≡ whole
-  pub rest : (k : ℕ) → 8 * n ≤ k → get_or row k 0 ≡ get_or old k 0
+  pub rest : (k : ℕ) → n ≤ k → get_or row k no_entry ≡ get_or old k no_entry
 
-pub filling_start : (todo : List (Key × Both) → List (Key × Both)) (row : List ℕ) (n : ℕ) → n ≤ 64 → length row ≡ 512
+pub filling_start : (todo : List (Key × Both) → List (Key × Both)) (row : List Entry) (n : ℕ) → n ≤ 64 → length row ≡ 64
     → Filling todo (todo (entries_from row 0 n)) row row n
 filling_start todo row n h s = record { few = h; size = s; left = refl; rest = λ k b. refl }
 
-pub filling_end : (whole : List (Key × Both)) (old row : List ℕ) (n : ℕ) → Filling (λ r. r) whole old row n
+pub filling_end : (whole : List (Key × Both)) (old row : List Entry) (n : ℕ) → Filling (λ r. r) whole old row n
     → Grown whole old row n
 filling_end whole old row n f = record {
   most = omega (arith, f.few);
@@ -126,7 +122,7 @@ filling_end whole old row n f = record {
     never : 64 < n → ⊥
     never h = omega (arith, f.few)
 
-module _ (todo then : List (Key × Both) → List (Key × Both)) (whole : List (Key × Both)) (old row : List ℕ) (n : ℕ)
+module _ (todo then : List (Key × Both) → List (Key × Both)) (whole : List (Key × Both)) (old row : List Entry) (n : ℕ)
     (f : Filling todo whole old row n) where
   pub filling_same : ((r : List (Key × Both)) → todo r ≡ then r) → Filling then whole old row n
   filling_same h = record {
@@ -139,8 +135,8 @@ module _ (todo then : List (Key × Both) → List (Key × Both)) (whole : List (
   module _ (one : List (Key × Both) → List (Key × Both))
       (one_then : (r : List (Key × Both)) → todo r ≡ then (one r))
       (grows : (r : List (Key × Both)) → length r ≤ length (one r))
-      (new : List ℕ) (m : ℕ) (grown : Grown (one (entries_from row 0 n)) row new m) where
-    pub filling_more : length new ≡ 512 → m ≤ 64 → Filling then whole old new m
+      (new : List Entry) (m : ℕ) (grown : Grown (one (entries_from row 0 n)) row new m) where
+    pub filling_more : length new ≡ 64 → m ≤ 64 → Filling then whole old new m
     filling_more s h = record {
       few = h;
       size = s;
@@ -164,35 +160,25 @@ module _ (todo then : List (Key × Both) → List (Key × Both)) (whole : List (
         (sym (one_then (entries_from row 0 n)) ∙ f.left) in
         omega (arith, e, g (one (entries_from row 0 n)), grown.over h)
 
--- the 65th set has been met: the words past it are none
-pub grown_past : (whole : List (Key × Both)) (old row : List ℕ) (n : ℕ) → length old ≡ 512 → length row ≡ 512 → n ≤ 65
+-- the 65th set has been met: the entries past it are none
+pub grown_past : (whole : List (Key × Both)) (old row : List Entry) (n : ℕ) → length old ≡ 64 → length row ≡ 64 → n ≤ 65
     → 64 < n → 64 < length whole → Grown whole old row n
 grown_past whole old row n s z few h more = record {
   most = few;
   held = λ l. absurd (never l);
   over = λ l. more;
-  rest = λ k l. get_or-eq_default row 0 (omega arith) ∙ sym (get_or-eq_default old 0 (omega arith));
+  rest = λ k l. get_or-eq_default row no_entry (omega arith) ∙ sym (get_or-eq_default old no_entry (omega arith));
 }
   where
     never : n ≤ 64 → ⊥
     never l = omega arith
 
--- a step that drops the entry
-pub grown_none : (l : List ℕ) (n : ℕ) → n ≤ 64 → Grown (entries_from l 0 n) l l n
-grown_none l n h = record { most = omega arith; held = λ b. refl; over = λ b. absurd (never b); rest = λ k b. refl }
-  where
-    never : 64 < n → ⊥
-    never b = omega arith
-
 -- ---- one turn of the loops
 
-module _ (jumps falls : Half) (cost : ℕ) (source : List ℕ) (many : ℕ) where
+module _ (jumps falls : Half) (cost : ℕ) (source : List Entry) (many : ℕ) where
   -- the tails from i on
   abbrev to_come : ℕ → List (Key × Both) → List (Key × Both)
   to_come i r = poured jumps falls cost (entries_from source i (many - i)) r
-
-  tails_begin : (r : List (Key × Both)) → poured jumps falls cost (entries_from source 0 many) r ≡ to_come 0 r
-  tails_begin r = ap (λ n. poured jumps falls cost (entries_from source 0 n) r) (sym (sub-zero many))
 
   tails_turn : (i : ℕ) → i < many → (r : List (Key × Both)) → to_come i r ≡ to_come (i + 1)
       (pushed jumps falls cost (entry_at source i) r)
@@ -213,24 +199,18 @@ module _ (jumps falls : Half) (cost : ℕ) (source : List ℕ) (many : ℕ) wher
       no_more i h = omega arith
 
   -- the row with the tails from i on to come
-  abbrev pub AtTail : (whole : List (Key × Both)) (old row : List ℕ) (held i : ℕ) → Type 0
+  abbrev pub AtTail : (whole : List (Key × Both)) (old row : List Entry) (held i : ℕ) → Type 0
   AtTail whole old row held i = Filling (to_come i) whole old row held
 
-  pub at_first : (row : List ℕ) (held : ℕ) → held ≤ 64 → length row ≡ 512 → AtTail
-      (poured jumps falls cost (entries_from source 0 many) (entries_from row 0 held)) row row held 0
-  at_first row held few size =
-      filling_same (poured jumps falls cost (entries_from source 0 many)) (to_come 0) _ row row held
-      (filling_start (poured jumps falls cost (entries_from source 0 many)) row held few size) tails_begin
-
-  pub at_last : (whole : List (Key × Both)) (old row : List ℕ) (held i : ℕ) → many ≤ i → AtTail whole old row held i
+  pub at_last : (whole : List (Key × Both)) (old row : List Entry) (held i : ℕ) → many ≤ i → AtTail whole old row held i
       → Grown whole old row held
   at_last whole old row held i h f = filling_end whole old row held
       (filling_same (to_come i) (λ r. r) whole old row held f (tails_end i h))
 
-  module _ (whole : List (Key × Both)) (old row : List ℕ) (held i : ℕ) (f : AtTail whole old row held i)
-      (h : i < many) (new : List ℕ) (m : ℕ)
+  module _ (whole : List (Key × Both)) (old row : List Entry) (held i : ℕ) (f : AtTail whole old row held i)
+      (h : i < many) (new : List Entry) (m : ℕ)
       (grown : Grown (pushed jumps falls cost (entry_at source i) (entries_from row 0 held)) row new m) where
-    pub at_next : length new ≡ 512 → m ≤ 64 → AtTail whole old new m (i + 1)
+    pub at_next : length new ≡ 64 → m ≤ 64 → AtTail whole old new m (i + 1)
     at_next =
         filling_more (to_come i) (to_come (i + 1)) whole old row held f
         (pushed jumps falls cost (entry_at source i)) (tails_turn i h)
@@ -261,42 +241,30 @@ module _ (plan : List ℕ) (b : ℕ) (tails : ℕ → List (Key × Both)) where
       two : way ≡ 2 → left_from plan b tails way r ≡ left_from plan b tails (way + 1) (poured_by plan b way (tails way) r)
       two e = rw e refl
 
-  -- one way's tails, by the words that the code has of it
-  module _ (way cost : ℕ) (jumps falls : Half) (l : List (Key × Both)) (j_is : jumps ≡ half_of plan b way 1)
-      (f_is : falls ≡ half_of plan b way 2) (c_is : cost ≡ cost_at plan b way)
-      (l_is : l ≡ tails way) (v : IsWay way) where
-    way_turn : (r : List (Key × Both)) → left_from plan b tails way r ≡ left_from plan b tails (way + 1)
-        (poured jumps falls cost l r)
+  -- one way's tails, by the step that the code has of it
+  module _ (way : ℕ) (step : Step) (is : IsStep plan b way step) (l : List (Key × Both)) (l_is : l ≡ tails way)
+      (v : IsWay way) where
+    abbrev poured_in : List (Key × Both) → List (Key × Both)
+    poured_in = poured step.jumps step.falls step.cost l
+
+    way_turn : (r : List (Key × Both)) → left_from plan b tails way r ≡ left_from plan b tails (way + 1) (poured_in r)
     unfolding poured_by
     way_turn r = left_step way v r ∙ ap (left_from plan b tails (way + 1))
-        (λ i. poured (sym j_is i) (sym f_is i) (sym c_is i) (sym l_is i) r)
+        (λ i. poured (sym is.jumps i) (sym is.falls i) (sym is.cost i) (sym l_is i) r)
 
     -- the row with the ways from this one on to come, and the row with this way's tails, made of it
-    module _ (whole : List (Key × Both)) (old row : List ℕ) (held : ℕ)
+    module _ (whole : List (Key × Both)) (old row : List Entry) (held : ℕ)
         (f : Filling (left_from plan b tails way) whole old row held) where
-      pub way_next : (new : List ℕ) (m : ℕ) → Grown (poured jumps falls cost l (entries_from row 0 held)) row new m
-          → length new ≡ 512 → m ≤ 64
+      pub way_next : (new : List Entry) (m : ℕ) → Grown (poured_in (entries_from row 0 held)) row new m
+          → length new ≡ 64 → m ≤ 64
           → Filling (left_from plan b tails (way + 1)) whole old new m
       way_next new m grown =
           filling_more (left_from plan b tails way) (left_from plan b tails (way + 1)) whole old row held f
-          (poured jumps falls cost l) way_turn (poured_grows jumps falls cost l) new m grown
+          poured_in way_turn (poured_grows step.jumps step.falls step.cost l) new m grown
 
-      pub way_over : 64 < length (poured jumps falls cost l (entries_from row 0 held)) → 64 < length whole
+      pub way_over : 64 < length (poured_in (entries_from row 0 held)) → 64 < length whole
       way_over h =
-          let e : length (left_from plan b tails (way + 1) (poured jumps falls cost l (entries_from row 0 held)))
+          let e : length (left_from plan b tails (way + 1) (poured_in (entries_from row 0 held)))
           ≡ length whole =
           ap length (sym (way_turn (entries_from row 0 held)) ∙ f.left) in
-          omega (arith, e, left_grows plan b tails (way + 1) (poured jumps falls cost l (entries_from row 0 held)))
-
--- ---- one entry
-
-module _ (jumps falls : Half) (cost : ℕ) (e : Key × Both) (r : List (Key × Both)) (j f : ℕ)
-    (j_is : j ≡ hits_of jumps e.0.0) (f_is : f ≡ hits_of falls e.0.1) where
-  pub pushed_dropped : (bit_or j f ≡ 0 → ⊥) → pushed jumps falls cost e r ≡ r
-  pushed_dropped h = rw (ne_eqb (bit_or (hits_of jumps e.0.0) (hits_of falls e.0.1)) 0
-      (λ z. h (ap₂ bit_or j_is f_is ∙ z)))
-
-  pub pushed_kept : (oj of : ℕ) (v : Both) → oj ≡ opened_of jumps e.0.0 → of ≡ opened_of falls e.0.1
-      → v ≡ step_both jumps falls cost e.1 → bit_or j f ≡ 0 → pushed jumps falls cost e r ≡ inserted ((oj, of), v) r
-  pushed_kept oj of v p q s h =
-      rw (eq-eqb (bit_or (hits_of jumps e.0.0) (hits_of falls e.0.1)) 0 (sym (ap₂ bit_or j_is f_is) ∙ h), p, q, s)
+          omega (arith, e, left_grows plan b tails (way + 1) (poured_in (entries_from row 0 held)))

@@ -10,7 +10,8 @@ use Rattle.theory.specs.Edges.{no_edges}
 use Rattle.theory.specs.Machine.{pour, pour_across}
 use Rattle.theory.specs.SweepWords.{Words}
 use Rattle.theory.specs.Plan.{cost_at}
-use Rattle.entries.specs.Entries.{Both, keep_best, keep_both, kept_side}
+use Rattle.entries.specs.Structs.{Both}
+use Rattle.entries.specs.Entries.{keep_best, keep_both, kept_side}
 use Rattle.rows.specs.declared.Half.{Half}
 use Rattle.rows.specs.Steps.{half_of, step_key, step_words, step_both}
 use Rattle.rows.specs.Begun.{own_way, begun_with}

@@ -22,10 +22,11 @@ use Rattle.theory.specs.Edges.{has, edges_words, any_edge_words}
 use Rattle.theory.specs.Steps.{wipes}
 use Rattle.theory.specs.Listing.{listing}
 use Rattle.theory.specs.Ties.{mark}
-use Rattle.entries.specs.Entries.{Both}
+use Rattle.entries.specs.Structs.{Both}
 use Rattle.rows.specs.declared.Half.{Half}
+use Rattle.rows.specs.declared.Step.{Step}
 use Rattle.theory.specs.PlanWays.{by_jump, by_fall}
-use Rattle.theory.specs.Plan.{test_at, touched_at, denied_at, against_at, listed_at, IsWay, Planned}
+use Rattle.theory.specs.Plan.{test_at, touched_at, denied_at, against_at, listed_at, cost_at, IsWay, Planned}
 
 -- ---- a step as words
 
@@ -37,6 +38,12 @@ half_of plan b way side = record {
   live = bit_and (listed_at plan b side) ((2 ^ 64 - 1) - touched_at plan b);
   left = cond (eqb way side) (1 * 2 ^ b % 2 ^ 64) 0;
 }
+
+-- the step that leaves block b by the way
+pub record IsStep (plan : List ℕ) (b way : ℕ) (step : Step) : Type 0 where
+  pub jumps : step.jumps ≡ half_of plan b way 1
+  pub falls : step.falls ≡ half_of plan b way 2
+  pub cost : step.cost ≡ cost_at plan b way
 
 abbrev pub hits_of : Half → ℕ → ℕ
 hits_of s edges = bit_or (bit_and edges s.against) (bit_and (bit_or edges s.own) s.denied)

@@ -1,10 +1,10 @@
--- The laws of a turn of the full walk: the words of the code are the forward machine's state, and the two ways in order
+-- The laws of a turn of the full walk: the sets of the code are the forward machine's state, and the two ways in order
 -- are the theory's turn. Rests on Terms and on theory's Walk, Forward and Edges.
 use Rattle.std.specs.Prelude.{◌≡◌, refl, Bool, true, false, not, cond, ◌||◌, ◌&&◌, List, [], ◌∷◌, ◌++◌}
-use Rattle.std.specs.Prelude.{ℕ, suc, ◌+◌, ◌-◌, ◌*◌, ◌^◌, ◌<◌, ◌≤◌, eqb, ltb}
+use Rattle.std.specs.Prelude.{ℕ, suc, ◌+◌, ◌-◌, ◌*◌, ◌^◌, ◌<◌, ◌≤◌, eqb, ltb, Some, None}
 use Rattle.std.proofs.Common.{sym, ap, ap₂, subst, ◌∙◌, inl, inr, add-one, arith}
-use Rattle.std.proofs.Common.{eq-eqb, ne_eqb, ltb-true, ltb-false, lt-ltb}
-use Rattle.std.proofs.Math.Bool.{and-false, or-false}
+use Rattle.std.proofs.Common.{ltb-true, ltb-false, lt-ltb}
+use Rattle.std.proofs.Math.Bool.{and-false}
 use Rattle.std.proofs.Math.Option.{Option, none, some}
 use Rattle.std.specs.Int.Bits.{bit_or}
 use Rattle.std.proofs.lemmas.Nat.{or_lt}
@@ -18,7 +18,7 @@ use Rattle.form.specs.Conflict.{exits, is_test, condition, touches, opposes, den
 use Rattle.lower_laws.specs.Joined.{denies_test, opposes_test}
 use Rattle.theory.specs.Row.{Key}
 use Rattle.theory.specs.Edges.{has, has_none, edges_words, no_edges}
-use Rattle.theory.specs.Walk.{within, keep_first, and_then, if_step, branch, walk_eq, tally_by}
+use Rattle.theory.specs.Walk.{keep_first, and_then, if_step, branch, walk_eq, tally_by}
 use Rattle.theory.specs.Forward.{on_machine, entered, banned, step_on}
 use Rattle.theory.specs.Ties.{mark}
 use Rattle.theory.specs.SweepWords.{Words}
@@ -26,9 +26,10 @@ use Rattle.theory.specs.WalkWords.{advance, finish, nothing}
 use Rattle.theory.specs.Main.{walk_answer}
 use Rattle.theory.specs.Range.{up_to, up_next, up_on}
 use Rattle.theory.specs.PlanWays.{by_way_lem, by_jump, by_fall}
-use Rattle.theory.specs.Plan.{target_at, cost_at, IsWay, Planned, PlanOf}
-use Rattle.search.specs.Terms.{kept_in, Found, eight_from, so_far, tallied, Standing}
-use Rattle.search.specs.Terms.{Barred, Entered, Barring, counting, walk_from, Walks, is_open, Took, Searched}
+use Rattle.theory.specs.Plan.{target_at, cost_at, IsWay, Planned}
+use Rattle.search.specs.declared.Found.{Found}
+use Rattle.search.specs.Terms.{kept_in, so_far, tallied, Standing, Barred, Entered, Barring, counting, walk_from}
+use Rattle.search.specs.Terms.{Walks, is_open, open_target, Took, Searched}
 use Rattle.search.specs.Terms.Took.{stays, goes}
 
 -- ---- the two ways, and the two sides of a set of edges
@@ -42,11 +43,10 @@ by_sides s r done j f k = by_way_lem (λ side. has r (k, side) ≡ done k side (
 
 -- ---- words
 
--- a set with one more number, where the test holds
-pub put_is : (x k r : ℕ) (t : Bool) → x < 2 ^ 64 → r < 2 ^ 64 → k < 64
-    → ((j : ℕ) → bit r j ≡ (bit x j || (t && eqb j k))) → r ≡ cond t (bit_or x (2 ^ k)) x
-put_is x k r true p q h bits = ext 64 q (or_lt 64 x (2 ^ k) p (pow-lt h)) (λ j l. bits j ∙ sym (bit_with x k j))
-put_is x k r false p q h bits = ext 64 q p (λ j l. bits j ∙ or-false (bit x j))
+-- a set with one more number
+pub put_is : (x k r : ℕ) → x < 2 ^ 64 → r < 2 ^ 64 → k < 64 → ((j : ℕ) → bit r j ≡ (bit x j || eqb j k))
+    → r ≡ bit_or x (2 ^ k)
+put_is x k r p q h bits = ext 64 q (or_lt 64 x (2 ^ k) p (pow-lt h)) (λ j l. bits j ∙ sym (bit_with x k j))
 
 -- ---- where a way leads
 
@@ -142,30 +142,15 @@ module _ (choice : Choice) where
   counts false false walked kept v = refl
 
   pub visit_is : (cost : ℕ → ℕ → ℕ) (count budget b : ℕ) (c : Words) (found r : Found) (last : Bool)
-      → eqb (suc b) count ≡ last → r.0 ≡ found.0 + 1
-      → let kept = kept_in choice found.1 in
-      kept_in choice r.1 ≡ cond last (keep_first (preferred choice) kept (finish cost (b, c))) kept
+      → eqb (suc b) count ≡ last → r.walked ≡ found.walked + 1
+      → let kept = kept_in choice found.best in
+      kept_in choice r.best ≡ cond last (keep_first (preferred choice) kept (finish cost (b, c))) kept
       → tallied choice budget r ≡ counting choice cost count budget (so_far choice found) (b, c)
   visit_is cost count budget b c found r last l w k =
-      (λ i. cond (ltb budget ((w ∙ add-one found.0) i)) none (some ((w ∙ add-one found.0) i, k i)))
-      ∙ counts (ltb budget (suc found.0)) last found.0 (kept_in choice found.1) (finish cost (b, c))
-      ∙ ap (λ d. tally_by (preferred choice) (ltb budget (suc found.0)) d (so_far choice found) (finish cost (b, c)))
-      (sym l)
-
--- ---- of the route kept, or none, and a new one
-
-module _ (choice : Choice) (any : ℕ) (held v : Words) where
-  abbrev Keeps : Words → Type 0
-  Keeps r = some r ≡ keep_first (preferred choice) (cond (eqb any 1) (some held) none) v
-
-  pub keeps_old : {better : Bool} → any ≡ 1 → better ≡ preferred choice v.0 held.0 → better ≡ false → Keeps held
-  keeps_old e is worse = rw (eq-eqb any 1 e, sym is ∙ worse)
-
-  pub keeps_new : {better : Bool} → any ≡ 1 → better ≡ preferred choice v.0 held.0 → better ≡ true → Keeps v
-  keeps_new e is better = rw (eq-eqb any 1 e, sym is ∙ better)
-
-  pub keeps_first : (any ≡ 1 → ⊥) → Keeps v
-  keeps_first d = rw (ne_eqb any 1 d)
+      (λ i. cond (ltb budget ((w ∙ add-one found.walked) i)) none (some ((w ∙ add-one found.walked) i, k i)))
+      ∙ counts (ltb budget (suc found.walked)) last found.walked (kept_in choice found.best) (finish cost (b, c))
+      ∙ ap (λ d. tally_by (preferred choice) (ltb budget (suc found.walked)) d (so_far choice found)
+      (finish cost (b, c))) (sym l)
 
 -- ---- the turn
 
@@ -215,7 +200,7 @@ module _ (choice : Choice) (body : Body) (cost : ℕ → ℕ → ℕ) (budget b 
       (target_at plan b 2) d) i)
 
   -- the tests: the budget is passed, the way exists, its edge is banned
-  way_is : (way target : ℕ) (first next : Found) (over is shut : Bool) → ltb budget first.0 ≡ over
+  way_is : (way target : ℕ) (first next : Found) (over is shut : Bool) → ltb budget first.walked ≡ over
       → ltb target 64 ≡ is → entered body b s (b, way) ≡ shut
       → (((is && not shut) && not over) ≡ false → next ≡ first)
       → (((is && not shut) && not over) ≡ true
@@ -262,7 +247,7 @@ module _ (choice : Choice) {body : Body} {cost : ℕ → ℕ → ℕ} {plan : Li
     where
       same : counting choice (cost_at plan) body.count budget (so_far choice found) (b, c)
           ≡ counting choice cost body.count budget (so_far choice found) (b, c)
-      same = λ i. tally_by (preferred choice) (ltb budget (suc found.0)) (eqb (suc b) body.count)
+      same = λ i. tally_by (preferred choice) (ltb budget (suc found.walked)) (eqb (suc b) body.count)
           (so_far choice found) (c.0 + p.costs b 0 h i, c.1)
 
 module _ (choice : Choice) {plan : List ℕ} {count budget b : ℕ} where
@@ -275,22 +260,64 @@ module _ (choice : Choice) {plan : List ℕ} {count budget b : ℕ} where
       (subst (λ n. Took choice plan n budget b 1 here c first second) (sym size) j)
       (subst (λ n. Took choice plan n budget b 2 here c second r) (sym size) f)
 
--- what a way comes to, from the test of the code and its call
-pub open_is : (plan : List ℕ) (b way : ℕ) (here : Key) (walked budget : ℕ) {target : ℕ} {banned o : Bool}
-    → target ≡ target_at plan b way → has here (b, way) ≡ banned
-    → o ≡ is_open target banned walked budget → is_open (target_at plan b way) (has here (b, way)) walked budget ≡ o
-open_is plan b way here walked budget is edge test = (λ i. is_open (sym is i) (edge i) walked budget) ∙ sym test
+-- the last block has no way on
+pub walks_last : (choice : Choice) (plan : List ℕ) (count budget b : ℕ) → b + 1 ≡ count → (s : Key) (c : Words)
+    → (found r : Found)
+    → tallied choice budget r ≡ counting choice (cost_at plan) count budget (so_far choice found) (b, c)
+    → Walks choice plan count budget b s c found r
+walks_last choice plan count budget b last s c found r v body cost p g size bars =
+    v ∙ same ∙ sym
+    (turn choice body cost budget b s c g plan p own (so_far choice found)
+    ∙ (λ i. and_then (counted choice body cost budget b s c (so_far choice found) (b, c))
+    (λ d. and_then (by 1 (none 1 by_jump i) d) (by 2 (none 2 by_fall i))))
+    ∙ then_some (counted choice body cost budget b s c (so_far choice found) (b, c)))
+  where
+    own : b < body.count
+    own = omega (arith, size)
+
+    none : (way : ℕ) → IsWay way → ltb (target_at plan b way) 64 ≡ false
+    none way w = is_false (ltb (target_at plan b way) 64)
+        (λ l. let (above, inside) = leads p g b own way w (ltb-true (target_at plan b way) 64 l) in omega (arith, size))
+
+    -- by a way, where it is there
+    by : (way : ℕ) → Bool → ℕ × Option Words → Option (ℕ × Option Words)
+    by way is a = cond is (taken choice body cost budget b s c way (target_at plan b way) a) (some a)
+
+    same : counting choice (cost_at plan) count budget (so_far choice found) (b, c)
+        ≡ counting choice cost body.count budget (so_far choice found) (b, c)
+    same = λ i. tally_by (preferred choice) (ltb budget (suc found.walked)) (eqb (suc b) (sym size i))
+        (so_far choice found) (c.0 + p.costs b 0 own i, c.1)
+
+-- what a way comes to, from where the code has it lead
+module _ (plan : List ℕ) (b way : ℕ) (here : Key) (walked budget : ℕ) {edge : Bool}
+    (is : has here (b, way) ≡ edge) where
+  abbrev Opens : Bool → Type 0
+  Opens o = is_open (target_at plan b way) (has here (b, way)) walked budget ≡ o
+
+  pub opened : {t : ℕ} → Some t ≡ open_target (target_at plan b way) edge walked budget
+      → Opens true × (t ≡ target_at plan b way)
+  opened {t} e = by (is_open (target_at plan b way) edge walked budget) refl e
+    where
+      by : (o : Bool) → is_open (target_at plan b way) edge walked budget ≡ o
+          → Some t ≡ cond o (Some (target_at plan b way)) None → Opens true × (t ≡ target_at plan b way)
+      by true i e = (rw is i, cc)
+      by false i e = absurd (cc)
+
+  pub shut : None ≡ open_target (target_at plan b way) edge walked budget → Opens false
+  shut e = by (is_open (target_at plan b way) edge walked budget) refl e
+    where
+      by : (o : Bool) → is_open (target_at plan b way) edge walked budget ≡ o
+          → None ≡ cond o (Some (target_at plan b way)) None → Opens false
+      by true i e = absurd (cc)
+      by false i e = rw is i
 
 pub took_goes : {choice : Choice} {plan : List ℕ} {count budget b way : ℕ} {here next : Key} {c on : Words}
-    {found s r : Found} {target : ℕ}
-    → is_open (target_at plan b way) (has here (b, way)) found.0 budget ≡ true → target ≡ target_at plan b way
-    → Barring plan b way here next → on ≡ advance (cost_at plan) (b, way) c
-    → Walks choice plan count budget target next on found s → r ≡ s
-    → Took choice plan count budget b way here c found r
-took_goes {choice = choice} {plan = plan} {count = count} {budget = budget} {b = b} {way = way} {here = here}
-    {next = next} {c = c} {on = on} {found = found} {s = s} o is l carried walked same =
-    subst (λ f. Took choice plan count budget b way here c found f) (sym same)
-    (goes o next l on carried (subst (λ n. Walks choice plan count budget n next on found s) is walked))
+    {found r : Found} {target : ℕ} → is_open (target_at plan b way) (has here (b, way)) found.walked budget ≡ true
+    → target ≡ target_at plan b way → Barring plan b way here next → on ≡ advance (cost_at plan) (b, way) c
+    → Walks choice plan count budget target next on found r → Took choice plan count budget b way here c found r
+took_goes {choice = choice} {plan = plan} {count = count} {budget = budget} {next = next} {on = on} {found = found}
+    {r = r} o is l carried walked =
+    goes o next l on carried (subst (λ n. Walks choice plan count budget n next on found r) is walked)
 
 -- the edges that a side's word has
 pub jump_edge : (s : Key) (k : ℕ) → has s (k, 1) ≡ bit s.0 k
@@ -343,45 +370,15 @@ module _ {plan : List ℕ} {count budget b weight before : ℕ} (s : Standing pl
         record { of = s.of; inside = omega arith; small = omega arith; counted = left; fits = s.fits },
       )
 
-  -- the last block has no way on
-  pub took_none : {choice : Choice} (way : ℕ) → IsWay way → (here : Key) (c : Words) (found : Found)
-      → b + 1 ≡ count → Took choice plan count budget b way here c found found
-  took_none way w here c found last =
-      stays (is_false (is_open (target_at plan b way) (has here (b, way)) found.0 budget)
-      (λ o. let (above, inside, left) = open_leads way w (has here (b, way)) found.0 o in omega arith)) refl
-
 -- ---- from block 0 on
 
-pub standing_first : (plan : List ℕ) (count budget : ℕ) → PlanOf plan count → budget < 4294967296
-    → Standing plan count budget 0 0 0
-standing_first plan count budget of fits = record {
-  of = of;
-  inside = omega (arith, of.sound.some, of.size);
-  small = omega arith;
-  counted = omega arith;
-  fits = fits;
-}
-
--- no route is kept before the first
-abbrev pub nothing_kept : List ℕ
-nothing_kept = 0 ∷ 0 ∷ 0 ∷ 0 ∷ 0 ∷ 0 ∷ 0 ∷ 0 ∷ []
-
-none_kept : (choice : Choice) → kept_in choice nothing_kept ≡ none
-none_kept false = refl
-none_kept true = refl
-
--- in the eight words one by one
-same_kept : (choice : Choice) (best : List ℕ) → kept_in choice (eight_from 0 best) ≡ kept_in choice best
-same_kept false best = refl
-same_kept true best = refl
-
-pub searched : (choice : Choice) (plan : List ℕ) (count budget walked : ℕ) (best : List ℕ)
-    → Walks choice plan count budget 0 no_edges nothing (0, nothing_kept) (walked, best)
-    → Searched choice plan count budget (walked, eight_from 0 best)
-searched choice plan count budget walked best w body cost p g size =
-    ap (within budget walked) (same_kept choice best)
-    ∙ w body cost p g size free
-    ∙ ap (λ (o : Option Words). walk_from choice body cost budget 0 no_edges nothing (0, o)) (none_kept choice)
+-- nothing is banned, carried or found before it
+pub searched : (choice : Choice) (plan : List ℕ) (count budget : ℕ) (s : Key) (c : Words) (found r : Found)
+    → s ≡ no_edges → c ≡ nothing → found ≡ record { walked = 0; best = None }
+    → Walks choice plan count budget 0 s c found r → Searched choice plan count budget r
+searched choice plan count budget s c found r none_banned none_left none_found w body cost p g size =
+    w body cost p g size (subst (Barred body) (sym none_banned) free)
+    ∙ (λ i. walk_from choice body cost budget 0 (none_banned i) (none_left i) (so_far choice (none_found i)))
     ∙ walk_answer body g cost (preferred choice) (preference choice) budget
   where
     free : Barred body no_edges

@@ -1,11 +1,11 @@
--- The terms of the full walk's contracts: what its words say in the theory's terms, and what each turn of the recursion
--- does. Definitions only. Rests on theory's Plan, Walk and Edges.
-use Rattle.std.specs.Prelude.{◌≡◌, Bool, true, false, not, cond, ◌||◌, ◌&&◌, List, [], ◌∷◌}
-use Rattle.std.specs.Prelude.{ℕ, ◌+◌, ◌^◌, ◌<◌, ◌≤◌, eqb, ltb, get_or}
+-- The terms of the full walk's contracts: what its structs say in the theory's terms, and what each turn of the
+-- recursion does. Definitions only. Rests on theory's Plan, Walk and Edges, and on entries' Structs.
+use Rattle.std.specs.Prelude.{◌≡◌, Bool, true, false, not, cond, ◌||◌, ◌&&◌, List}
+use Rattle.std.specs.Prelude.{ℕ, ◌^◌, ◌<◌, ◌≤◌, ltb, Option as Optional, Some, None}
 use Rattle.std.proofs.Math.Option.{Option, none, some}
-use Rattle.laws.specs.Terms.{Choice, bit, preferred}
+use Rattle.laws.specs.Terms.{Choice, chosen, bit, preferred}
 use Rattle.form.specs.declared.Body.{Body}
-use Rattle.form.specs.Conflict.{is_test, Sound}
+use Rattle.form.specs.Conflict.{Edge, is_test, Sound}
 use Rattle.theory.specs.Route.{best_route, walked}
 use Rattle.theory.specs.Row.{Key}
 use Rattle.theory.specs.Edges.{has}
@@ -15,41 +15,35 @@ use Rattle.theory.specs.SweepWords.{Words, words_found}
 use Rattle.theory.specs.WalkWords.{advance, finish}
 use Rattle.theory.specs.Range.{up_to}
 use Rattle.theory.specs.Plan.{target_at, touched_at, denied_at, against_at, cost_at, IsWay, Planned, PlanOf}
+use Rattle.theory.specs.Ties.{mark}
+use Rattle.entries.specs.Structs.{words_in}
 use Rattle.search.specs.declared.Banned.{Banned}
+use Rattle.search.specs.declared.Left.{Left}
+use Rattle.search.specs.declared.Best.{Best}
+use Rattle.search.specs.declared.Found.{Found}
 
 -- ---- where the walk stands
 
 abbrev pub banned_at : Banned → Key
 banned_at at = (at.jumps, at.falls)
 
+abbrev pub left_at : Left → Key
+left_at left = (left.jumped, left.fallen)
+
+-- the blocks left, with a step's block by its way
+abbrev pub marked : Edge → Key → Key
+marked x left = (mark 1 x left.0, mark 2 x left.1)
+
 -- ---- what is found so far
 
--- where the four words of the choice begin: 1 where a route is kept, and its way
-abbrev pub place_of : Choice → ℕ
-place_of false = 0
-place_of true = 4
-
-abbrev pub way_kept : Choice → List ℕ → Words
-way_kept choice best =
-    (get_or best (place_of choice + 1) 0, (get_or best (place_of choice + 2) 0, get_or best (place_of choice + 3) 0))
+-- the way of the choice
+abbrev pub way_in : Choice → Best → Words
+way_in choice best = words_in (chosen choice (best.heaviest, best.lightest))
 
 -- the route kept by the choice
-abbrev pub kept_in : Choice → List ℕ → Option Words
-kept_in choice best = cond (eqb (get_or best (place_of choice) 0) 1) (some (way_kept choice best)) none
-
--- the number of beginnings, and the words of both routes kept
-abbrev pub Found : Type 0
-Found = ℕ × List ℕ
-
--- eight words from a place on
-abbrev pub eight_from : ℕ → List ℕ → List ℕ
-eight_from at words =
-    get_or words at 0 ∷ get_or words (at + 1) 0 ∷ get_or words (at + 2) 0 ∷ get_or words (at + 3) 0
-    ∷ get_or words (at + 4) 0 ∷ get_or words (at + 5) 0 ∷ get_or words (at + 6) 0 ∷ get_or words (at + 7) 0 ∷ []
-
--- all in nine words
-abbrev pub found_in : List ℕ → Found
-found_in words = (get_or words 0 0, eight_from 1 words)
+abbrev pub kept_in : Choice → Optional Best → Option Words
+kept_in choice None = none
+kept_in choice (Some best) = some (way_in choice best)
 
 -- ---- a turn
 
@@ -81,13 +75,17 @@ pub record Barring (plan : List ℕ) (b way : ℕ) (s r : Key) : Type 0 where
 abbrev pub is_open : (target : ℕ) → (banned : Bool) → (walked budget : ℕ) → Bool
 is_open target banned walked budget = (ltb target 64 && not banned) && not (ltb budget walked)
 
+-- where it leads then
+abbrev pub open_target : (target : ℕ) → (banned : Bool) → (walked budget : ℕ) → Optional ℕ
+open_target target banned walked budget = cond (is_open target banned walked budget) (Some target) None
+
 module _ (choice : Choice) where
   abbrev pub so_far : Found → ℕ × Option Words
-  so_far found = (found.0, kept_in choice found.1)
+  so_far found = (found.walked, kept_in choice found.best)
 
   -- over the budget, or the count and the route kept
   abbrev pub tallied : (budget : ℕ) → Found → Option (ℕ × Option Words)
-  tallied budget found = within budget found.0 (kept_in choice found.1)
+  tallied budget found = within budget found.walked (kept_in choice found.best)
 
   -- one beginning more
   abbrev pub counting : (cost : ℕ → ℕ → ℕ) → (count budget : ℕ) → ℕ × Option Words → ℕ × Words
@@ -108,9 +106,9 @@ module _ (choice : Choice) where
 
   -- what a way of block b comes to, from what is banned in it and carried to it
   pub data Took (plan : List ℕ) (count budget b way : ℕ) (here : Key) (c : Words) (found r : Found) : Type 0 where
-    stays : is_open (target_at plan b way) (has here (b, way)) found.0 budget ≡ false → r ≡ found
+    stays : is_open (target_at plan b way) (has here (b, way)) found.walked budget ≡ false → r ≡ found
         → Took plan count budget b way here c found r
-    goes : is_open (target_at plan b way) (has here (b, way)) found.0 budget ≡ true → (next : Key)
+    goes : is_open (target_at plan b way) (has here (b, way)) found.walked budget ≡ true → (next : Key)
         → Barring plan b way here next → (on : Words) → on ≡ advance (cost_at plan) (b, way) c
         → Walks plan count budget (target_at plan b way) next on found r → Took plan count budget b way here c found r
 

@@ -1,10 +1,12 @@
 -- The sweep's answer, after document 01, 'Sweep' and 'Refusal numbers', and request A1, with the lent table of entries
 -- after it. Trusted: definitions only. Rests on plan's Owed (the values and bytes of both routes) and on theory's Route
 -- (the two sides of the answer and their routes) and Row (rows, kept, crowded).
-use Rattle.std.specs.Prelude.{cond, List, [], ◌∷◌, ◌++◌, ℕ, suc, ◌*◌, ◌-◌, ltb, length, take, drop, replicate}
+use Rattle.std.specs.Prelude.{cond, List, [], ◌∷◌, ◌++◌, ℕ, suc, ◌*◌, ◌-◌, ltb, length, take, drop, replicate, Result, Ok, Err}
 use Rattle.std.proofs.Math.Option.{Option, none, some}
 use Rattle.laws.specs.Terms.{Choice, heaviest, lightest, each, range}
 use Rattle.form.specs.declared.Body.{Body}
+use Rattle.form.specs.declared.Refusal.{Refusal}
+use Rattle.form.specs.Said.{number_of}
 use Rattle.form.specs.Form.{body_of}
 use Rattle.form.specs.Conflict.{conflicts}
 use Rattle.theory.specs.Route.{Routes, Side, side_of, routes_on}
@@ -13,13 +15,13 @@ use Rattle.theory.specs.Row.{row, filled, kept, crowded}
 use Rattle.plan.specs.Owed.{Owed, Values, refusal, answered, routed_values, bytes_needed, routed_bytes}
 use Rattle.entries.specs.declared.Way.{Way}
 use Rattle.entries.specs.declared.Entry.{Entry}
-use Rattle.sweep_steps.specs.declared.SweepAnswer.{SweepAnswer}
-use Rattle.sweep_steps.specs.declared.SweepAnswer.TheVariants.{Routed, Refused}
+use Rattle.sweep_steps.specs.declared.Routed.{Routed}
 
 -- in document 01's numbers
-abbrev pub said : SweepAnswer → Values
-said (Routed iterations weight bound least least_total kept) = answered iterations weight bound least least_total kept
-said (Refused number place) = refusal number place
+abbrev pub said : Result Routed Refusal → Values
+said (Ok r) =
+    answered r.totals.iterations r.totals.weight r.totals.bound r.totals.least r.totals.least_total r.kept
+said (Err r) = refusal (number_of r.fault) r.place
 
 -- ---- the answer, and what the lent bytes and the lent table hold after it
 
@@ -28,7 +30,7 @@ pub record Outcome : Type 0 where
   pub route : List ℕ
   pub table : List Entry
 
-abbrev pub outcome_of : SweepAnswer → (route : List ℕ) → (table : List Entry) → Outcome
+abbrev pub outcome_of : Result Routed Refusal → (route : List ℕ) → (table : List Entry) → Outcome
 outcome_of answer route table = record { values = said answer; route = route; table = table }
 
 -- A refusal changes no lent memory.
@@ -49,7 +51,7 @@ entry_from heavy light = record {
   lightest = way_from light;
 }
 
--- The two sides' rows of a block: entry by entry they have the same sets (theory's RowSets.same-set-at).
+-- The two sides' rows of a block: entry by entry they have the same sets (theory's RowSets.same_set_at).
 unfoldable pub side_by_side : (heavy light : List theory.Entry) → List Entry
 side_by_side (heavy ∷ r) (light ∷ s) = entry_from heavy light ∷ side_by_side r s
 side_by_side [] s = []
@@ -108,5 +110,5 @@ SweepOwed form route table outcome = Owed form (refused route table)
 abbrev pub own_table : List Entry
 own_table = replicate 1024 no_entry
 
-abbrev pub OwnTableOwed : (form route : List ℕ) → SweepAnswer → (held : List ℕ) → Type 0
+abbrev pub OwnTableOwed : (form route : List ℕ) → Result Routed Refusal → (held : List ℕ) → Type 0
 OwnTableOwed form route answer held = (table : List Entry) × SweepOwed form route own_table (outcome_of answer held table)

@@ -13,7 +13,7 @@ use Rattle.theory.specs.RowSets.{sets_of, same_sets}
 use Rattle.entries.specs.declared.Way.{Way}
 use Rattle.entries.specs.declared.Entry.{Entry}
 use Rattle.sweep_steps.specs.Answer.{entry_from, side_by_side, rows_on}
-use Rattle.sweep_steps.specs.Table.{map_append}
+use Rattle.std.proofs.lemmas.List.{map-append}
 
 abbrev way_by : Choice → Entry → Way
 way_by choice e = chosen choice (e.heaviest, e.lightest)
@@ -67,7 +67,7 @@ map_take f (suc n) (x ∷ l) = ap (λ r. f x ∷ r) (map_take f n l)
 filled_sets : (r : List theory.Entry)
     → map sets_of (filled r) ≡ take 64 (map sets_of r ++ map sets_of (replicate 64 theory.no_entry))
 filled_sets r = map_take sets_of 64 (r ++ replicate 64 theory.no_entry)
-    ∙ ap (take 64) (map_append sets_of r (replicate 64 theory.no_entry))
+    ∙ ap (take 64) (map-append sets_of r (replicate 64 theory.no_entry))
 
 module _ (body : Body) (sides : Choice → Side) (b : ℕ) where
   abbrev row_by : Choice → List theory.Entry

@@ -1,37 +1,39 @@
 -- The drive of the sweep: where the table, the lengths and kept stand between two blocks, for any body and costs with
--- this plan; the start, one turn and the end. Rests on Turn
--- and Table.
-use Rattle.std.specs.Prelude.{◌≡◌, refl, cond, List, [], map, ℕ, suc, max, ◌+◌, ◌*◌, ◌-◌, ◌^◌, ◌≤◌, ◌<◌, eqb, ltb, set, replicate}
+-- this plan; the start, one turn and the end. Rests on Turn and Table.
+use Rattle.std.specs.Prelude.{◌≡◌, refl, Bool, true, false, cond, List, [], ◌∷◌, ◌++◌, map, ℕ, suc, max, ◌+◌, ◌*◌, ◌-◌, ◌^◌, ◌≤◌, ◌<◌, eqb, ltb, set, replicate, Result, MatchResult}
 use Rattle.std.proofs.Math.Path.{sym, ap, ap₂}
-use Rattle.std.proofs.Common.{subst, ◌∙◌, zero-add, arith, eqb-true, lt-ltb, le-ltb, ltb-true, ltb-false, length-set, get_or-set_same, get_or-set_other}
-use Rattle.std.proofs.Math.Option.{Option, none, some}
+use Rattle.std.proofs.Common.{subst, ◌∙◌, inl, inr, zero-add, arith, eqb-true, lt-ltb, le-ltb, ltb-true, ltb-false, length-set, get_or-set_same, get_or-set_other}
+use Rattle.std.proofs.Math.Option.{none, some}
 use Rattle.std.proofs.Math.Nat.{max-zero, zero-max}
 use Rattle.std.proofs.lemmas.Bool.{eqb-false}
 use Rattle.std.proofs.Math.ListN.{length, get_or, get_or-eq_default}
 use Rattle.std.proofs.lemmas.List.{length-map, length-replicate, get_or-replicate}
 use Rattle.std.proofs.Math.Seq.{paste}
+use Rattle.std.proofs.lemmas.List.Edits.{length-paste}
 use Rattle.laws.specs.Terms.{Choice, heaviest, lightest, preferred, chosen, Mem}
 use Rattle.laws.specs.Lists.{map_in}
 use Rattle.laws.specs.Rows.{across}
 use Rattle.laws.specs.Tests.{split}
 use Rattle.form.specs.declared.Body.{Body}
-use Rattle.form.specs.Conflict.{Sound, conflicts}
+use Rattle.form.specs.declared.Fault.TheVariants.{Crowded}
+use Rattle.form.specs.declared.Refusal.{Refusal}
+use Rattle.form.specs.Conflict.{Sound, exits, conflicts}
 use Rattle.theory.specs.Row as theory
 use Rattle.theory.specs.Row.{Key, open_sets, filled, longest, highest, crowded}
 use Rattle.theory.specs.SweepWords as words
 use Rattle.theory.specs.SweepWords.{Words, row_words_lem, words_count}
 use Rattle.theory.specs.Range.{Range, up_past}
-use Rattle.theory.specs.Plan.{sides_by, cost_at, Planned, PlanOf, cost_limit}
+use Rattle.theory.specs.PlanWays.{by_way_lem}
+use Rattle.theory.specs.Plan.{sides_by, target_at, cost_at, IsWay, Planned, PlanOf, cost_limit}
 use Rattle.entries.specs.declared.Entry.{Entry}
-use Rattle.entries.specs.Entries.{Both, entries_from, entries_length}
-use Rattle.entries.specs.Structs.{tuple_of, struct_at}
+use Rattle.entries.specs.Structs.{Both, tuple_of}
+use Rattle.entries.specs.Entries.{entries_from, entries_alike, entries_length}
 use Rattle.rows.specs.Begun.{Holds, begun_with}
 use Rattle.rows.specs.Sides.{side_row, left_on, left_side, begun_side}
-use Rattle.sweep_steps.specs.declared.Swept.{Swept}
-use Rattle.sweep_steps.specs.declared.Swept.TheVariants.{Crowded, Rows}
+use Rattle.sweep_steps.specs.declared.Rows.{Rows}
 use Rattle.sweep_steps.specs.Answer.{side_by_side, no_entry, table_with, rows_on}
-use Rattle.sweep_steps.specs.Table.{entries_in, in_length, in_mem, in_alike, in_words, structs_of, structs_length, structs_at, side_laid, row_laid, paste_in, paste_high, table_none, table_more}
-use Rattle.sweep_steps.specs.Turn.{row_of, range_of, entry_small, row_is, row_in, target_rows, row_from, weight_at, Stored, Turned}
+use Rattle.sweep_steps.specs.Table.{in_mem, side_laid, row_laid, paste_in, paste_high, table_none, table_more}
+use Rattle.sweep_steps.specs.Turn.{row_of, range_of, entry_small, row_is, row_in, target_rows, row_from, weight_at, TurnReady, Stored}
 
 -- ---- the lengths
 
@@ -83,30 +85,25 @@ sets_at body = open_sets body (conflicts body)
 
 -- the rows from b on are complete; what they say of kept and of the highest crowded block
 pub record Down (body : Body) (cost : ℕ → ℕ → ℕ) (lent table : List Entry) (lengths : List ℕ)
-    (b kept found : ℕ) : Type 0 where
+    (b kept : ℕ) : Type 0 where
   pub rows : (choice : Choice) (t : ℕ) → b ≤ t → t < body.count
       → side_row choice (row_in table lengths t) ≡ row_of choice body cost t
   pub table_is : table ≡ table_with (rows_on body (sides_by cost)) b body.count lent
   pub kept_is : max kept (longest (sets_at body) b) ≡ theory.kept body
   pub crowd_is : highest (sets_at body) b ≡ crowded body
-  pub found_is : b < body.count → found ≡ length (sets_at body b)
 
 down_start : (body : Body) (cost : ℕ → ℕ → ℕ) (lent : List Entry) (lengths : List ℕ) → Down body cost lent lent lengths
-    body.count 0 0
+    body.count 0
 unfolding theory.kept crowded
 down_start body cost lent lengths = record {
   rows = λ choice t h k. absurd (never t h k);
   table_is = sym (table_none (rows_on body (sides_by cost)) body.count lent);
   kept_is = zero-max (longest (sets_at body) body.count);
   crowd_is = refl;
-  found_is = λ h. absurd (same h);
 }
   where
     never : (t : ℕ) → body.count ≤ t → t < body.count → ⊥
     never t h k = omega arith
-
-    same : body.count < body.count → ⊥
-    same h = omega arith
 
 max_three : (a b c : ℕ) → max (max a b) c ≡ max a (max b c)
 max_three a b c = omega arith
@@ -120,10 +117,10 @@ highest_suc : (rows : ℕ → List Key) (b : ℕ) → highest rows (suc b) ≡ c
 unfolding highest
 highest_suc rows b = refl
 
-module _ (body : Body) (cost : ℕ → ℕ → ℕ) (lent table : List Entry) (lengths : List ℕ) (b kept found : ℕ)
+module _ (body : Body) (cost : ℕ → ℕ → ℕ) (lent table : List Entry) (lengths : List ℕ) (b kept : ℕ)
     (inside : b < body.count) (few : body.count ≤ 64) (room : 64 * body.count ≤ length lent)
     (same : length table ≡ length lent) (sizes : Lengths body.count (suc b) lengths)
-    (d : Down body cost lent table lengths (suc b) kept found) where
+    (d : Down body cost lent table lengths (suc b) kept) where
   -- the row made is on each side the row by definition
   module _ (r : List (Key × Both)) (is : (choice : Choice) → side_row choice r ≡ row_of choice body cost b) where
     row_size : length r ≡ length (sets_at body b)
@@ -146,27 +143,26 @@ module _ (body : Body) (cost : ℕ → ℕ → ℕ) (lent table : List Entry) (l
 
       own_row : row_in new news b ≡ r
       own_row =
-          ap (entries_in new (64 * b)) (get_or-set_same lengths b n 0 (omega (arith, sizes.size)))
-          ∙ sym (in_words s.row new n 0 (64 * b) (λ k l.
-          ap (λ i. tuple_of (struct_at s.row i)) (zero-add k)
-          ∙ ap tuple_of (sym (ap (λ t. get_or t (64 * b + k) no_entry) s.table_is ∙ paste_in no_entry table
-          (structs_of s.row) (64 * b) 64 in_table (structs_length s.row) k (omega (arith, h.few)) ∙ structs_at
-          s.row k (omega (arith, h.few))))))
+          ap (entries_from new (64 * b)) (get_or-set_same lengths b n 0 (omega (arith, sizes.size)))
+          ∙ sym (entries_alike s.row new n 0 (64 * b) (λ k l.
+          ap (λ i. get_or s.row i no_entry) (zero-add k)
+          ∙ sym (ap (λ t. get_or t (64 * b + k) no_entry) s.table_is ∙ paste_in no_entry table s.row (64 * b) 64 in_table
+          h.size k (omega (arith, h.few)))))
           ∙ h.held
 
       other_row : (t : ℕ) → suc b ≤ t → row_in new news t ≡ row_in table lengths t
       other_row t k =
-          ap (entries_in new (64 * t)) (get_or-set_other lengths b t n 0 (λ q. omega arith))
-          ∙ in_alike new table (get_or lengths t 0) (64 * t) (64 * t)
-          (λ i l. ap (λ w. get_or w (64 * t + i) no_entry) s.table_is ∙ paste_high no_entry table (structs_of s.row)
-          (64 * b) 64 in_table (structs_length s.row) (64 * t + i) (omega arith))
+          ap (entries_from new (64 * t)) (get_or-set_other lengths b t n 0 (λ q. omega arith))
+          ∙ entries_alike new table (get_or lengths t 0) (64 * t) (64 * t)
+          (λ i l. ap (λ w. get_or w (64 * t + i) no_entry) s.table_is ∙ paste_high no_entry table s.row
+          (64 * b) 64 in_table h.size (64 * t + i) (omega arith))
 
       -- a side of it as document 01 has it
       side_laid_lem : (choice : Choice) → side_laid choice (entries_from s.row 0 n) ≡ rows_on body (sides_by cost) choice b
       side_laid_lem choice = ap (side_laid choice) h.held ∙ ap (map words.entry_from) (is choice)
           ∙ sym (row_words_lem body (conflicts body) cost (preferred choice) b)
 
-      down_more : Down body cost lent new news b (max kept n) n
+      down_more : Down body cost lent new news b (max kept n)
       down_more = record {
         rows = λ choice t l k. split (eqb t b)
             (λ q. subst (λ (t : ℕ). side_row choice (row_in new news t) ≡ row_of choice body cost t)
@@ -175,10 +171,10 @@ module _ (body : Body) (cost : ℕ → ℕ → ℕ) (lent table : List Entry) (l
             ap (side_row choice) (other_row t (omega arith)) ∙ d.rows choice t (omega arith) k);
         table_is =
             s.table_is
-            ∙ ap (λ t. paste t (64 * b) (structs_of s.row) 64) d.table_is
-            ∙ table_more (rows_on body (sides_by cost)) body.count lent b (structs_of s.row) inside room
-            (structs_length s.row)
-            (row_laid s.row n h.few h.zeros
+            ∙ ap (λ t. paste t (64 * b) s.row 64) d.table_is
+            ∙ table_more (rows_on body (sides_by cost)) body.count lent b s.row inside room
+            h.size
+            (row_laid s.row n h.few h.size h.zeros
             ∙ ap₂ (λ p q. side_by_side (filled p) (filled q)) (side_laid_lem heaviest) (side_laid_lem lightest));
         kept_is =
             max_three kept n (longest (sets_at body) b)
@@ -189,7 +185,6 @@ module _ (body : Body) (cost : ℕ → ℕ → ℕ) (lent table : List Entry) (l
             sym (highest_suc (sets_at body) b ∙ ap (λ c. cond c (some b) (highest (sets_at body) b))
             (le-ltb 64 (length (sets_at body b)) (omega (arith, n_is, h.few))))
             ∙ d.crowd_is;
-        found_is = λ k. n_is;
       }
 
     -- more than 64 sets: the block is the highest crowded one
@@ -219,11 +214,11 @@ module _ (body : Body) (g : Sound body) (cost : ℕ → ℕ → ℕ) (range : Ra
 
 module _ (body : Body) (g : Sound body) (cost : ℕ → ℕ → ℕ) (range : Range body.count cost cost_limit) (plan : List ℕ)
     (fits : (k : ℕ) → get_or plan k 0 < 2 ^ 64) (planned : Planned body cost plan)
-    (lent table : List Entry) (lengths : List ℕ) (b kept found : ℕ) (inside : b < body.count)
-    (sizes : Lengths body.count (suc b) lengths) (d : Down body cost lent table lengths (suc b) kept found) where
+    (lent table : List Entry) (lengths : List ℕ) (b kept : ℕ) (inside : b < body.count)
+    (sizes : Lengths body.count (suc b) lengths) (d : Down body cost lent table lengths (suc b) kept) where
   no_row : (t : ℕ) → 64 ≤ t → row_in table lengths t ≡ []
-  unfolding entries_in
-  no_row t h = ap (entries_in table (64 * t)) (get_or-eq_default lengths 0 {n = t} (omega (arith, sizes.size)))
+  unfolding entries_from
+  no_row t h = ap (entries_from table (64 * t)) (get_or-eq_default lengths 0 {n = t} (omega (arith, sizes.size)))
 
   turn_row : (choice : Choice) → side_row choice (row_from plan body.count table lengths b) ≡ row_of choice body cost b
   turn_row choice =
@@ -255,155 +250,171 @@ module _ (body : Body) (g : Sound body) (cost : ℕ → ℕ → ℕ) (range : Ra
       let w = weight_few body g cost range choice t k (across (chosen choice) e) m in
       omega (arith, w, planned.costs b way inside, cost_few body g cost range b way inside)
 
+  -- a target that there is stands in the body
+  target_inside : (way : ℕ) → IsWay way → target_at plan b way < 64 → target_at plan b way < body.count
+  target_inside way is h = g.onward.inside b (way, target_at plan b way) (leaves way is h)
+    where
+      last : (c : Bool) → Mem {A = ℕ × ℕ} (2, target_at plan b 2)
+          (cond c ((1, target_at plan b 1) ∷ []) [] ++ ((2, target_at plan b 2) ∷ []))
+      last true = inr (inl refl)
+      last false = inl refl
+
+      leaves : (way : ℕ) → IsWay way → target_at plan b way < 64 → Mem (way, target_at plan b way) (exits body b)
+      leaves = by_way_lem (λ way. target_at plan b way < 64 → Mem (way, target_at plan b way) (exits body b))
+          (λ l. rw (planned.ways b inside, lt-ltb (target_at plan b 1) 64 l) (inl refl))
+          (λ l. rw (planned.ways b inside, lt-ltb (target_at plan b 2) 64 l) (last (ltb (target_at plan b 1) 64)))
+
 -- ---- what the drive answers
 
--- the highest crowded block, or kept and the length of row 0
-abbrev pub swept_of : Body → Option ℕ → Swept
-swept_of body none = Rows (theory.kept body) (length (sets_at body 0))
-swept_of body (some b) = Crowded b
+-- 40 at a block
+abbrev pub crowd_at : ℕ → Refusal
+crowd_at b = record { fault = Crowded; place = b }
 
--- the rows from here on are complete
-abbrev pub complete_from : Option ℕ → ℕ
-complete_from none = 0
-complete_from (some b) = suc b
+-- a row of n entries more
+abbrev pub rows_with : Rows → (b n : ℕ) → Rows
+rows_with rows b n = record { lengths = set rows.lengths b n; kept = max rows.kept n }
 
-pub record SweptAs (body : Body) (cost : ℕ → ℕ → ℕ) (lent table : List Entry) (answer : Swept) : Type 0 where
-  pub answer_is : answer ≡ swept_of body (crowded body)
-  pub table_is : table ≡ table_with (rows_on body (sides_by cost)) (complete_from (crowded body)) body.count lent
-  pub first : (kept found : ℕ) → answer ≡ Rows kept found
-      → (choice : Choice) → side_row choice (entries_in table 0 found) ≡ row_of choice body cost 0
+-- all rows are complete
+pub record Whole (body : Body) (cost : ℕ → ℕ → ℕ) (lent table : List Entry) (rows : Rows) : Type 0 where
+  pub crowd_is : crowded body ≡ none
+  pub kept_is : rows.kept ≡ theory.kept body
+  pub table_is : table ≡ table_with (rows_on body (sides_by cost)) 0 body.count lent
+  pub first : (choice : Choice) → side_row choice (row_in table rows.lengths 0) ≡ row_of choice body cost 0
 
-module _ (body : Body) (cost : ℕ → ℕ → ℕ) (lent table : List Entry) (lengths : List ℕ) where
-  swept_crowded : (b kept found : ℕ) → crowded body ≡ some b → Down body cost lent table lengths (suc b) kept found
-      → SweptAs body cost lent table (Crowded b)
-  swept_crowded b kept found e d = record {
-    answer_is = sym (ap (swept_of body) e);
-    table_is = d.table_is ∙ ap (λ o. table_with (rows_on body (sides_by cost)) (complete_from o) body.count lent)
-        (sym e);
-    first = λ k f q choice. absurd (never k f q);
+-- the rows above the highest crowded block are complete
+pub record UpTo (body : Body) (cost : ℕ → ℕ → ℕ) (lent table : List Entry) (refusal : Refusal) : Type 0 where
+  pub block : ℕ
+  pub crowd_is : crowded body ≡ some block
+  pub refusal_is : refusal ≡ crowd_at block
+  pub table_is : table ≡ table_with (rows_on body (sides_by cost)) (suc block) body.count lent
+
+abbrev pub SweptAs : (body : Body) (cost : ℕ → ℕ → ℕ) (lent table : List Entry) → Result Rows Refusal → Type 0
+SweptAs body cost lent table result = MatchResult result (Whole body cost lent table) (UpTo body cost lent table)
+
+module _ (body : Body) (cost : ℕ → ℕ → ℕ) (lent table : List Entry) where
+  swept_crowded : (lengths : List ℕ) (b kept : ℕ) → crowded body ≡ some b
+      → Down body cost lent table lengths (suc b) kept
+      → UpTo body cost lent table (crowd_at b)
+  swept_crowded lengths b kept e d = record {
+    block = b;
+    crowd_is = e;
+    refusal_is = refl;
+    table_is = d.table_is;
   }
-    where
-      never : (k f : ℕ) → Crowded b ≡ Rows k f → ⊥
-      never k f q = let z : ◌≡◌ {A = ℕ} 0 1 = cc in omega arith
 
-  swept_whole : (kept found : ℕ) → 0 < body.count → Down body cost lent table lengths 0 kept found
-      → SweptAs body cost lent table (Rows kept found)
+  swept_whole : (rows : Rows) → 0 < body.count → Down body cost lent table rows.lengths 0 rows.kept
+      → Whole body cost lent table rows
   unfolding longest highest
-  swept_whole kept found any_block d = record {
-    answer_is = ap₂ Rows (sym (max-zero kept) ∙ d.kept_is) (d.found_is any_block) ∙ ap (swept_of body)
-        d.crowd_is;
-    table_is = d.table_is ∙ ap (λ o. table_with (rows_on body (sides_by cost)) (complete_from o) body.count lent)
-        d.crowd_is;
-    first = λ k f q choice. ap (λ n. side_row choice (entries_in table 0 n))
-        (same k f q ∙ d.found_is any_block ∙ sym row_zero_size) ∙ d.rows choice 0 (omega arith) any_block;
+  swept_whole rows any_block d = record {
+    crowd_is = sym d.crowd_is;
+    kept_is = sym (max-zero rows.kept) ∙ d.kept_is;
+    table_is = d.table_is;
+    first = λ choice. d.rows choice 0 (omega arith) any_block;
   }
-    where
-      row_zero_size : get_or lengths 0 0 ≡ length (sets_at body 0)
-      row_zero_size =
-          sym (in_length table 0 (get_or lengths 0 0))
-          ∙ sym (length-map (entries_in table 0 (get_or lengths 0 0)) (across (λ (v : Both). v.0)))
-          ∙ ap length (d.rows heaviest 0 (omega arith) any_block)
-          ∙ words_count body (conflicts body) cost (preferred heaviest) 0
-
-      same : (k f : ℕ) → Rows kept found ≡ Rows k f → f ≡ found
-      same k f q = cc
 
 -- ---- between two blocks
 
-pub record Sweeping (plan : List ℕ) (lent table : List Entry) (lengths : List ℕ) (count b kept found : ℕ) : Type 0 where
+-- with b blocks to come
+pub record Sweeping (plan : List ℕ) (lent table : List Entry) (lengths : List ℕ) (count b kept : ℕ) : Type 0 where
   pub rows : (body : Body) (cost : ℕ → ℕ → ℕ) → Planned body cost plan → Sound body → body.count ≡ count
-      → Down body cost lent table lengths b kept found
+      → Down body cost lent table lengths b kept
   pub sizes : Lengths count b lengths
   pub same : length table ≡ length lent
   pub below : b ≤ count
 
-pub sweeping_start : (plan : List ℕ) (lent : List Entry) (count : ℕ) → Sweeping plan lent lent no_lengths count count 0 0
+pub sweeping_start : (plan : List ℕ) (lent : List Entry) (count : ℕ) → Sweeping plan lent lent no_lengths count count 0
 sweeping_start plan lent count = record {
-  rows = λ body cost p g e. subst (λ (n : ℕ). Down body cost lent lent no_lengths n 0 0) e
+  rows = λ body cost p g e. subst (λ (n : ℕ). Down body cost lent lent no_lengths n 0) e
       (down_start body cost lent no_lengths);
   sizes = lengths_none count;
   same = refl;
   below = omega arith;
 }
 
-pub sweeping_end : (plan : List ℕ) (lent table : List Entry) (lengths : List ℕ) (count b kept found : ℕ) → b ≡ 0
-    → Sweeping plan lent table lengths count b kept found
+pub sweeping_end : {plan : List ℕ} {lent table : List Entry} {count b : ℕ} (rows : Rows) → b ≡ 0
+    → Sweeping plan lent table rows.lengths count b rows.kept
     → (body : Body) (cost : ℕ → ℕ → ℕ) → Planned body cost plan → Sound body → body.count ≡ count
-    → SweptAs body cost lent table (Rows kept found)
-sweeping_end plan lent table lengths count b kept found z w body cost p g e =
-    swept_whole body cost lent table lengths kept found g.some
-    (subst (λ (n : ℕ). Down body cost lent table lengths n kept found) z (w.rows body cost p g e))
+    → Whole body cost lent table rows
+sweeping_end {plan} {lent} {table} {count} rows z v body cost p g e =
+    swept_whole body cost lent table rows g.some
+    (subst (λ (b : ℕ). Down body cost lent table rows.lengths b rows.kept) z (v.rows body cost p g e))
 
-module _ (plan : List ℕ) (fits : (k : ℕ) → get_or plan k 0 < 2 ^ 64) (count : ℕ) (of : PlanOf plan count)
-    (lent table : List Entry) (lengths : List ℕ) (room : 64 * count ≤ length lent) (b kept found : ℕ) (more : 0 < b)
-    (w : Sweeping plan lent table lengths count b kept found) where
-  next : suc (b - 1) ≡ b
-  next = omega arith
+module _ {plan : List ℕ} {lent table : List Entry} {lengths : List ℕ} {count b kept : ℕ}
+    (v : Sweeping plan lent table lengths count b kept) (more : 0 < b) (of : PlanOf plan count)
+    (room : 64 * count ≤ length lent) (fits : (k : ℕ) → get_or plan k 0 < 2 ^ 64) where
+  abbrev at : ℕ
+  at = b - 1
+
+  w : Sweeping plan lent table lengths count (suc at) kept
+  w = let next : b ≡ suc at = omega arith in subst (λ (n : ℕ). Sweeping plan lent table lengths count n kept) next v
 
   module _ (body : Body) (cost : ℕ → ℕ → ℕ) (p : Planned body cost plan) (g : Sound body)
       (e : body.count ≡ count) where
     range : Range body.count cost cost_limit
     range = range_of plan count of body cost p e
 
-    down : Down body cost lent table lengths (suc (b - 1)) kept found
-    down = subst (λ (n : ℕ). Down body cost lent table lengths n kept found) (sym next) (w.rows body cost p g e)
+    down : Down body cost lent table lengths (suc at) kept
+    down = w.rows body cost p g e
 
-    lengths_of : Lengths body.count (suc (b - 1)) lengths
-    lengths_of = subst (λ (n : ℕ). Lengths n (suc (b - 1)) lengths) (sym e)
-        (subst (λ (n : ℕ). Lengths count n lengths) (sym next) w.sizes)
+    lengths_of : Lengths body.count (suc at) lengths
+    lengths_of = subst (λ (n : ℕ). Lengths n (suc at) lengths) (sym e) w.sizes
 
-    inside : b - 1 < body.count
+    inside : at < body.count
     inside = omega (arith, w.below)
 
-    row_here : (choice : Choice) → side_row choice (row_from plan count table lengths (b - 1))
-        ≡ row_of choice body cost (b - 1)
-    row_here choice = ap (λ n. side_row choice (row_from plan n table lengths (b - 1))) (sym e)
-        ∙ turn_row body g cost range plan fits p lent table lengths (b - 1) kept found inside lengths_of down choice
+    row_here : (choice : Choice) → side_row choice (row_from plan count table lengths at) ≡ row_of choice body cost at
+    row_here choice = ap (λ n. side_row choice (row_from plan n table lengths at)) (sym e)
+        ∙ turn_row body g cost range plan fits p lent table lengths at kept inside lengths_of down choice
 
     light_here : (choice : Choice) (way t i : ℕ) → i < get_or lengths t 0
-        → cost_at plan (b - 1) way + weight_at choice table (64 * t + i) < 2 ^ 64
-    light_here = turn_light body g cost range plan fits p lent table lengths (b - 1) kept found inside lengths_of down
+        → cost_at plan at way + weight_at choice table (64 * t + i) < 2 ^ 64
+    light_here = turn_light body g cost range plan fits p lent table lengths at kept inside lengths_of down
 
-    inside_here : (t i : ℕ) → i < get_or lengths t 0 → 64 * t + i < length table
-    inside_here t i h = omega (
-      arith,
-      (some_row body g cost range plan fits p lent table lengths
-          (b - 1) kept found inside lengths_of down t i h).1,
-      w.sizes.few t,
-      w.same,
-    )
+    target_here : (way : ℕ) → IsWay way → target_at plan at way < 64 → target_at plan at way < body.count
+    target_here = target_inside body g cost range plan fits p lent table lengths at kept inside lengths_of down
 
-  pub sweeping_light : (choice : Choice) (way t i : ℕ) → i < get_or lengths t 0
-      → cost_at plan (b - 1) way + weight_at choice table (64 * t + i) < 2 ^ 64
-  sweeping_light = light_here of.body of.cost of.planned of.sound of.size
-
-  pub sweeping_inside : (t i : ℕ) → i < get_or lengths t 0 → 64 * t + i < length table
-  sweeping_inside = inside_here of.body of.cost of.planned of.sound of.size
-
-  pub count_few : count ≤ 64
+  count_few : count ≤ 64
   count_few = omega (arith, of.sound.few, of.size)
 
-  module _ (new : List Entry) (n : ℕ) (turned : Turned (row_from plan count table lengths (b - 1)) table new
-      (b - 1) n) where
-    pub sweeping_more : n ≤ 64 → length new ≡ length table → Sweeping plan lent new (set lengths (b - 1) n) count
-        (b - 1) (max kept n) n
-    sweeping_more few same = record {
-      rows = λ body cost p g e.
-          down_more body cost lent table lengths (b - 1) kept found (inside body cost p g e) g.few (omega arith)
-          w.same (lengths_of body cost p g e) (down body cost p g e) (row_from plan count table lengths (b - 1))
-          (row_here body cost p g e) new n (turned.whole few);
-      sizes = lengths_more count (b - 1) n lengths (omega (arith, w.below)) count_few few
-          (subst (λ (n : ℕ). Lengths count n lengths) (sym next) w.sizes);
-      same = same ∙ w.same;
-      below = omega (arith, w.below);
-    }
+  pub turn_ready : TurnReady plan table lengths at
+  turn_ready = record {
+    below = omega (arith, w.below, count_few);
+    rows = w.sizes.size;
+    few = w.sizes.few;
+    room = omega (arith, w.below, w.same, room);
+    inside = λ way is h. omega (
+      arith,
+      target_here of.body of.cost of.planned of.sound of.size way is h,
+      of.size,
+      w.same,
+      room,
+    );
+    light = light_here of.body of.cost of.planned of.sound of.size;
+  }
 
-    pub sweeping_crowded : 64 < n → (body : Body) (cost : ℕ → ℕ → ℕ) → Planned body cost plan → Sound body
-        → body.count ≡ count → SweptAs body cost lent new (Crowded (b - 1))
-    sweeping_crowded over body cost p g e =
-        subst (λ (t : List Entry). SweptAs body cost lent t (Crowded (b - 1))) (sym (turned.over over).1)
-        (swept_crowded body cost lent table lengths (b - 1) kept found
-        (down_over body cost lent table lengths (b - 1) kept found (inside body cost p g e) g.few (omega arith)
-        w.same (lengths_of body cost p g e) (down body cost p g e) (row_from plan count table lengths (b - 1))
-        (row_here body cost p g e) (turned.over over).0)
-        (down body cost p g e))
+  -- the block's row is stored
+  pub sweeping_more : (new : List Entry) (n : ℕ) → Stored (row_from plan count table lengths at) table new at n
+      → Sweeping plan lent new (set lengths at n) count at (max kept n)
+  sweeping_more new n stored = record {
+    rows = λ body cost p g e.
+        down_more body cost lent table lengths at kept (inside body cost p g e) g.few (omega arith)
+        w.same (lengths_of body cost p g e) (down body cost p g e) (row_from plan count table lengths at)
+        (row_here body cost p g e) new n stored;
+    sizes = lengths_more count at n lengths (omega (arith, w.below)) count_few stored.holds.few w.sizes;
+    same =
+        ap length stored.table_is
+        ∙ length-paste table (64 * at) stored.row 64 (omega (arith, turn_ready.room)) (omega (arith, stored.holds.size))
+        ∙ w.same;
+    below = omega (arith, w.below);
+  }
+
+  -- the 65th set has been met
+  pub sweeping_crowded : 64 < length (row_from plan count table lengths at)
+      → (body : Body) (cost : ℕ → ℕ → ℕ) → Planned body cost plan → Sound body
+      → body.count ≡ count → UpTo body cost lent table (crowd_at at)
+  sweeping_crowded over body cost p g e =
+      swept_crowded body cost lent table lengths at kept
+      (down_over body cost lent table lengths at kept (inside body cost p g e) g.few (omega arith)
+      w.same (lengths_of body cost p g e) (down body cost p g e) (row_from plan count table lengths at)
+      (row_here body cost p g e) over)
+      (down body cost p g e)

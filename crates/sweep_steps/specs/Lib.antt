@@ -1,9 +1,9 @@
--- The sweep. Trusted: Answer. The table of entries and rows in local memory (Table), one block's turn (Turn), the drive
--- (Drive, and where its code stands: Driven), the answer (Ends).
+-- The sweep. Trusted: Answer; it leaves one answer (OneAnswer). The table of entries and the rows in it (Table, Beside),
+-- one block's turn (Turn), all rows from the last block down (Drive), the answer (Ends).
 pub mod Answer
+pub mod OneAnswer
 pub mod Table
 pub mod Beside
 pub mod Turn
 pub mod Drive
-pub mod Driven
 pub mod Ends

@@ -1,19 +1,17 @@
 -- One block's turn. A row made, on the words of a plan, of the rows of its targets is on each side the row by
--- definition (`row_is`);
--- fetching those rows, making it and storing it is a turn
--- (`turn_made`). Rests on Table, on rows' Rows, Steps and Begun, and on theory's sweep-turn and entry-fits.
-use Rattle.std.specs.Prelude.{◌≡◌, Bool, true, false, cond, eqb, ltb, length, get_or, set, replicate}
+-- definition (`row_is`); made of those rows as they are fetched from the table, it is the row from the table
+-- (`turn_made`). Rests on Table, on rows' Rows, Steps and Begun, and on theory's sweep_turn and entry_fits.
+use Rattle.std.specs.Prelude.{◌≡◌, Bool, true, false, cond, eqb, ltb, length, get_or, take, drop}
 use Rattle.std.proofs.Math.Path.{refl, ap, ap₂, subst}
-use Rattle.std.proofs.Common.{sym, ◌∙◌, inl, inr, lt-ltb, le-ltb, ltb-true, ltb-false, eqb-true, get_or-set_same, get_or-set_other}
-use mathlib.Core.List.{List, [], ◌∷◌, ◌++◌, map, append-nil}
+use Rattle.std.proofs.Common.{sym, ◌∙◌, inl, inr, zero-add, ltb-true, ltb-false, length-take-le, length-drop, get_or-take, get_or-drop}
+use mathlib.Core.List.{List, [], ◌∷◌, ◌++◌, append-nil}
 use Rattle.std.proofs.Math.Option.{Option}
-use Prim.Native.Nat.{ℕ, zero, suc, ◌+◌, ◌*◌, ◌-◌, ◌^◌, ◌≤◌, ◌<◌}
+use Prim.Native.Nat.{ℕ, suc, ◌+◌, ◌*◌, ◌-◌, ◌^◌, ◌≤◌, ◌<◌}
 use native.Mathlib.Omega.{arith}
-use Rattle.std.proofs.lemmas.Bool.{eqb-false}
 use Rattle.std.proofs.Math.ListN.{get_or-eq_default}
 use Rattle.std.proofs.Math.Seq.{paste}
+use Rattle.std.specs.declared.ops.Range as ops
 use Rattle.laws.specs.Terms.{Choice, Mem, chosen, preferred}
-use Rattle.laws.specs.Tests.{split}
 use Rattle.laws.specs.Orders.{preference}
 use Rattle.laws.specs.Lists.{mem_left, mem_right}
 use Rattle.form.specs.declared.Body.{Body}
@@ -28,18 +26,13 @@ use Rattle.theory.specs.Main.{sweep_turn}
 use Rattle.theory.specs.Range.{Range, up_to}
 use Rattle.theory.specs.Plan.{target_at, cost_at, exit_by, IsWay, Planned, cost_limit, PlanOf}
 use Rattle.entries.specs.declared.Entry.{Entry}
-use Rattle.rows.specs.declared.Tails.{Tails}
-use Rattle.entries.specs.Entries.{Both, entry_at, entries_from, keep_best, Grown, entries_length}
+use Rattle.entries.specs.Structs.{Both, tuple_of}
+use Rattle.entries.specs.Entries.{entry_at, entries_from, keep_best, Grown, entries_alike, entries_length}
 use Rattle.rows.specs.Steps.{half_of, step_key, step_words, step_key_lem, step_words_lem}
-use Rattle.rows.specs.Rows.{tails_by, poured_by, left_from, left_grows, Ready}
+use Rattle.rows.specs.Rows.{tails_of, tails_by, poured_by, left_from, left_grows, Ready}
 use Rattle.rows.specs.Begun.{Holds, begun_with}
 use Rattle.rows.specs.Sides.{poured_on, left_on, begun_on}
-use Rattle.sweep_steps.specs.declared.Drive.{Drive}
-use Rattle.sweep_steps.specs.declared.Sources.{Sources}
-use Rattle.sweep_steps.specs.declared.Built.{Built}
-use Rattle.entries.specs.Structs.{tuple_of}
 use Rattle.sweep_steps.specs.Answer.{no_entry}
-use Rattle.sweep_steps.specs.Table.{entries_in, fetched, row_fetched_at, fetched_length, fetched_entries, stored, stored_is, structs_of}
 
 -- ---- pouring by steps that agree on the entries
 
@@ -152,27 +145,17 @@ module _ (choice : Choice) (body : Body) (g : Sound body) (cost : ℕ → ℕ �
         (planned.costs b 0 inside)
         ∙ sweep_turn body g cost (preferred choice) (preference choice) rows b inside above
 
--- ---- words that are cleared
-
--- one more is zero, and those before it are
-pub zeros_more : (l : List ℕ) (k : ℕ) → k < length l → ((j : ℕ) → j < k → get_or l j 0 ≡ 0) → (j : ℕ) → j < suc k → get_or
-    (set l k 0) j 0 ≡ 0
-zeros_more l k inside zeros j h = split (eqb j k)
-    (λ q. let e = eqb-true j k q in ap (λ i. get_or (set l k 0) i 0) e ∙ get_or-set_same l k 0 0 inside)
-    (λ q. get_or-set_other l k j 0 0 (eqb-false j k q) ∙ zeros j (omega (arith, eqb-false j k q)))
-
-pub zeros_all : (l : List ℕ) (n : ℕ) → length l ≡ n → ((j : ℕ) → j < n → get_or l j 0 ≡ 0) → l ≡ replicate n 0
-zeros_all l n size zeros = subst (λ (m : ℕ). l ≡ replicate m 0) size (all l (λ j h. zeros j (omega (arith, size))))
-  where
-    all : (l : List ℕ) → ((j : ℕ) → j < length l → get_or l j 0 ≡ 0) → l ≡ replicate (length l) 0
-    all [] zeros = refl
-    all (x ∷ l) zeros = λ i. zeros 0 (omega arith) i ∷ all l (λ j h. zeros (suc j) (omega arith)) i
-
--- ---- what the covered functions make
+-- ---- what the rows in the table make
 
 -- row t of the table
 abbrev pub row_in : List Entry → (lengths : List ℕ) → ℕ → List (Key × Both)
-row_in table lengths t = entries_in table (64 * t) (get_or lengths t 0)
+row_in table lengths t = entries_from table (64 * t) (get_or lengths t 0)
+
+-- where its entries stand; a row that there is none of has none
+abbrev pub place_in : (lengths : List ℕ) → ℕ → ops.Range ℕ
+place_in lengths t =
+    cond (ltb t (length lengths)) (record { start = 64 * t; end = 64 * t + get_or lengths t 0 })
+    (record { start = 0; end = 0 })
 
 -- by each way the row of the target of block b
 abbrev pub target_rows : (plan : List ℕ) → List Entry → (lengths : List ℕ) → (b way : ℕ) → List (Key × Both)
@@ -182,39 +165,16 @@ target_rows plan table lengths b way = row_in table lengths (target_at plan b wa
 abbrev pub row_from : (plan : List ℕ) → (count : ℕ) → List Entry → (lengths : List ℕ) → (b : ℕ) → List (Key × Both)
 row_from plan count table lengths b = left_from plan b (target_rows plan table lengths b) 1 (begun_with plan count b)
 
--- the first entry of row t, where there is such a row
-abbrev pub first_of : ℕ → ℕ
-first_of t = cond (ltb t 64) (64 * t) 0
+-- a row of up to 64 entries, or the 65th set has been met
+pub record MadeOf (r : List (Key × Both)) (row : List Entry) (held : ℕ) : Type 0 where
+  pub whole : held ≤ 64 → Holds r row held
+  pub over : 64 < held → 64 < length r
 
-abbrev pub sources_of : (plan lengths : List ℕ) → ℕ → Sources
-sources_of plan lengths b = record {
-  b = b;
-  jump = first_of (target_at plan b 1);
-  jumps = get_or lengths (target_at plan b 1) 0;
-  fall = first_of (target_at plan b 2);
-  falls = get_or lengths (target_at plan b 2) 0;
-}
-
-abbrev pub tails_in : Sources → Tails
-tails_in s = record { jumps = s.jumps; falls = s.falls }
-
--- a row of up to 64 entries is stored whole, a longer one not at all
-abbrev pub whole_of : (held : ℕ) → ℕ
-whole_of held = cond (ltb held 65) 64 0
-
--- a row of up to 64 entries, or the 65th has been met; and where it goes
-pub record BuiltAs (r : List (Key × Both)) (b : ℕ) (words : List ℕ) (built : Built) : Type 0 where
-  pub whole : built.held ≤ 64 → Holds r words built.held
-  pub over : 64 < built.held → 64 < length r
-  pub from_is : built.from ≡ 64 * b
-  pub entries_is : built.entries ≡ whole_of built.held
-
-pub built_as : (plan : List ℕ) (b : ℕ) (tails : ℕ → List (Key × Both)) (r : List (Key × Both)) (row : List ℕ) (n : ℕ)
-    → Holds r row n → (new : List ℕ) (m : ℕ)
-    → Grown (left_from plan b tails 1 (entries_from row 0 n)) row new m → length new ≡ 512 → (whole : ℕ) → whole
-    ≡ whole_of m
-    → BuiltAs (left_from plan b tails 1 r) b new (record { held = m; from = 64 * b; entries = whole })
-built_as plan b tails r row n h new m grown size whole e = record {
+pub made_of : (plan : List ℕ) (b : ℕ) (tails : ℕ → List (Key × Both)) (r : List (Key × Both)) (row : List Entry) (n : ℕ)
+    → Holds r row n → (new : List Entry) (m : ℕ)
+    → Grown (left_from plan b tails 1 (entries_from row 0 n)) row new m → length new ≡ 64
+    → MadeOf (left_from plan b tails 1 r) new m
+made_of plan b tails r row n h new m grown size = record {
   whole = λ few. record {
     few = few;
     size = size;
@@ -222,8 +182,6 @@ built_as plan b tails r row n h new m grown size whole e = record {
     zeros = λ k l. grown.rest k l ∙ h.zeros k (omega (arith, longer few));
   };
   over = λ l. subst (λ (r : List (Key × Both)). 64 < length (left_from plan b tails 1 r)) h.held (grown.over l);
-  from_is = refl;
-  entries_is = e;
 }
   where
     longer : m ≤ 64 → n ≤ m
@@ -240,175 +198,107 @@ built_as plan b tails r row n h new m grown size whole e = record {
 
 -- the weight of the choice in entry i of the table
 abbrev pub weight_at : Choice → List Entry → ℕ → ℕ
-weight_at choice table i = (chosen choice (tuple_of (get_or table i no_entry)).1).0
+weight_at choice table i = (chosen choice (entry_at table i).1).0
 
-pub record TurnReady (plan : List ℕ) (table : List Entry) (at : Drive) : Type 0 where
-  pub size : length plan ≡ 1024
-  pub some : 0 < at.b
-  pub most : at.b ≤ 64
-  pub rows : length at.lengths ≡ 64
-  pub few : (t : ℕ) → get_or at.lengths t 0 ≤ 64
-  pub room : 64 * at.b ≤ length table
-  pub inside : (t i : ℕ) → i < get_or at.lengths t 0 → 64 * t + i < length table
-  pub light : (choice : Choice) (way t i : ℕ) → i < get_or at.lengths t 0
-      → cost_at plan (at.b - 1) way + weight_at choice table (64 * t + i) < 2 ^ 64
+pub record TurnReady (plan : List ℕ) (table : List Entry) (lengths : List ℕ) (b : ℕ) : Type 0 where
+  pub below : b < 64
+  pub rows : length lengths ≡ 64
+  pub few : (t : ℕ) → get_or lengths t 0 ≤ 64
+  pub room : 64 * b + 64 ≤ length table
+  pub inside : (way : ℕ) → IsWay way → target_at plan b way < 64 → 64 * target_at plan b way + 64 ≤ length table
+  pub light : (choice : Choice) (way t i : ℕ) → i < get_or lengths t 0
+      → cost_at plan b way + weight_at choice table (64 * t + i) < 2 ^ 64
 
 -- a row of up to 64 entries stands in the table at block b
 pub record Stored (r : List (Key × Both)) (table new : List Entry) (b n : ℕ) : Type 0 where
-  pub row : List ℕ
+  pub row : List Entry
   pub holds : Holds r row n
-  pub table_is : new ≡ paste table (64 * b) (structs_of row) 64
+  pub table_is : new ≡ paste table (64 * b) row 64
 
--- it is stored; the 65th set changes nothing
-pub record Turned (r : List (Key × Both)) (table new : List Entry) (b n : ℕ) : Type 0 where
-  pub whole : n ≤ 64 → Stored r table new b n
-  pub over : 64 < n → (64 < length r) × (new ≡ table)
+-- n entries, from entry `from` on, stand in a place of the table
+pub record Placed (table : List Entry) (from n : ℕ) (place : ops.Range ℕ) : Type 0 where
+  pub size : place.end ≡ place.start + n
+  pub start : 0 < n → place.start ≡ from
+  pub room : place.end ≤ length table
 
-abbrev pub turned_by : (plan : List ℕ) (count : ℕ) (at : Drive) (table new : List Entry) (n : ℕ) → Type 0
-turned_by plan count at table new n = Turned (row_from plan count table at.lengths (at.b - 1)) table new (at.b - 1) n
+abbrev pub part_at : (table : List Entry) → ops.Range ℕ → List Entry
+part_at table place = take (place.end - place.start) (drop place.start table)
 
-module _ (plan : List ℕ) (count : ℕ) (at : Drive) (table : List Entry) (t : TurnReady plan table at) where
-  abbrev block : ℕ
-  block = at.b - 1
+pub part_length : (table : List Entry) (from n : ℕ) (place : ops.Range ℕ) → Placed table from n place
+    → length (part_at table place) ≡ n
+part_length table from n place is = omega (
+  arith,
+  length-take-le (place.end - place.start) (drop place.start table)
+      (omega (arith, length-drop place.start table, is.size, is.room)),
+  is.size,
+)
 
-  -- a target's row stands in the table
-  module _ (target : ℕ) where
+module _ {plan : List ℕ} {table : List Entry} {lengths : List ℕ} {b : ℕ} (t : TurnReady plan table lengths b) where
+  -- the target's row, and its place in the table
+  module _ (way : ℕ) (v : IsWay way) (place : ops.Range ℕ)
+      (place_is : place ≡ place_in lengths (target_at plan b way)) where
+    abbrev target : ℕ
+    target = target_at plan b way
+
     abbrev many : ℕ
-    many = get_or at.lengths target 0
+    many = get_or lengths target 0
 
-    known : (i : ℕ) → i < many → first_of target ≡ 64 * target
-    known i h = split (ltb target 64) (λ q. rw q refl) (λ q. absurd (never (ltb-false target 64 q)))
+    pub placed : Placed table (64 * target) many place
+    placed = subst (Placed table (64 * target) many) (sym place_is) (by (ltb target (length lengths)) refl)
       where
-        never : 64 ≤ target → ⊥
-        never l = omega (arith, get_or-eq_default at.lengths 0 {n = target} (omega (arith, t.rows)))
+        by : (c : Bool) → ltb target (length lengths) ≡ c → Placed table (64 * target) many
+            (cond c (record { start = 64 * target; end = 64 * target + many }) (record { start = 0; end = 0 }))
+        by true e =
+            let h : target < 64 = omega (arith, ltb-true target (length lengths) e, t.rows) in
+            let l : 64 * target + 64 ≤ length table = t.inside way v h in
+            record { size = refl; start = λ k. refl; room = omega (arith, t.few target) }
+        by false e =
+            let none : many ≡ 0 = get_or-eq_default lengths 0 {n = target} (ltb-false target (length lengths) e) in
+            record { size = omega arith; start = λ k. absurd (omega arith); room = omega arith }
 
-    source_inside : (k : ℕ) → k < many → first_of target + k < length table
-    source_inside k h = omega (arith, known k h, t.inside target k h)
+    abbrev part : List Entry
+    part = part_at table place
 
-    -- fetched into any row
-    module _ (row : List ℕ) (size : length row ≡ 512) where
-      abbrev source : List ℕ
-      source = fetched row table (first_of target) many
+    pub part_size : length part ≡ many
+    part_size = part_length table (64 * target) many place placed
 
-      source_size : length source ≡ 512
-      source_size = fetched_length row table (first_of target) many ∙ size
+    entry_is : (k : ℕ) → k < many → get_or part k no_entry ≡ get_or table (64 * target + k) no_entry
+    entry_is k h =
+        get_or-take (place.end - place.start) (drop place.start table) k no_entry (omega (arith, placed.size))
+        ∙ get_or-drop place.start table k no_entry
+        ∙ ap (λ i. get_or table (i + k) no_entry) (placed.start (omega arith))
 
-      source_light : (choice : Choice) (way i : ℕ) → i < many
-          → cost_at plan block way + (chosen choice (entry_at source i).1).0 < 2 ^ 64
-      source_light choice way i h =
-          let e : (chosen choice (entry_at source i).1).0 ≡ weight_at choice table (64 * target + i) =
-          ap (λ (e : Key × Both). (chosen choice e.1).0)
-          (row_fetched_at row size table (first_of target) many (t.few target) i h) ∙ ap
-          (λ f. weight_at choice table (f + i)) (known i h) in
-          subst (λ (n : ℕ). cost_at plan block way + n < 2 ^ 64) (sym e) (t.light choice way target i h)
+    part_light : (choice : Choice) (way i : ℕ) → i < length part
+        → cost_at plan b way + (chosen choice (entry_at part i).1).0 < 2 ^ 64
+    part_light choice way i h =
+        let l : i < many = omega (arith, part_size) in
+        subst (λ (e : Entry). cost_at plan b way + (chosen choice (tuple_of e).1).0 < 2 ^ 64) (sym (entry_is i l))
+        (t.light choice way target i l)
 
-      source_row : entries_from source 0 many ≡ row_in table at.lengths target
-      unfolding entries_in
-      source_row = fetched_entries row size table (first_of target) many (t.few target) ∙ place many refl
-        where
-          place : (n : ℕ) → n ≡ many → entries_in table (first_of target) n ≡ entries_in table (64 * target) n
-          place zero e = refl
-          place (suc n) e = ap (λ f. entries_in table f (suc n)) (known 0 (omega arith))
+    part_row : tails_of part ≡ row_in table lengths target
+    part_row =
+        ap (entries_from part 0) part_size
+        ∙ entries_alike part table many 0 (64 * target) (λ k h. ap (λ j. get_or part j no_entry) (zero-add k) ∙ entry_is k h)
 
-  abbrev s : Sources
-  s = sources_of plan at.lengths block
+  -- the row made of both targets' rows
+  module _ (jump fall : ops.Range ℕ) (jump_is : jump ≡ place_in lengths (target_at plan b 1))
+      (fall_is : fall ≡ place_in lengths (target_at plan b 2)) where
+    one : IsWay 1
+    one = (omega arith, omega arith)
 
-  abbrev Row : Sources → (first second : List ℕ) → List (Key × Both)
-  Row s first second = left_from plan s.b (tails_by (tails_in s) first second) 1 (begun_with plan count s.b)
+    two : IsWay 2
+    two = (omega arith, omega arith)
 
-  -- the targets' rows, fetched into the rows f and g
-  module _ (f : List ℕ) (f_size : length f ≡ 512) (g : List ℕ) (g_size : length g ≡ 512) where
-    abbrev jump_source : List ℕ
-    jump_source = source (target_at plan block 1) f f_size
+    pub make_asked : Ready plan b (part_at table jump) (part_at table fall)
+    make_asked = record { below = t.below; light = λ choice way i. by choice way i (eqb way 1) }
+      where
+        by : (choice : Choice) (way i : ℕ) (c : Bool) → i < length (cond c (part_at table jump) (part_at table fall))
+            → cost_at plan b way + (chosen choice (entry_at (cond c (part_at table jump) (part_at table fall)) i).1).0 < 2 ^ 64
+        by choice way i true h = part_light 1 one jump jump_is choice way i h
+        by choice way i false h = part_light 2 two fall fall_is choice way i h
 
-    abbrev fall_source : List ℕ
-    fall_source = source (target_at plan block 2) g g_size
-
-    made_is : Row s jump_source fall_source ≡ row_from plan count table at.lengths block
+    pub turn_made : (count : ℕ) → left_from plan b (tails_by (part_at table jump) (part_at table fall)) 1
+        (begun_with plan count b) ≡ row_from plan count table lengths b
     unfolding left_from
-    made_is = λ i. poured_by plan block 2 (source_row (target_at plan block 2) g g_size i)
-        (poured_by plan block 1 (source_row (target_at plan block 1) f f_size i) (begun_with plan count block))
-
-    ready : Ready plan block (tails_in s) jump_source fall_source
-    ready = record {
-      size = t.size;
-      below = omega (arith, t.some, t.most);
-      first_size = source_size (target_at plan block 1) f f_size;
-      second_size = source_size (target_at plan block 2) g g_size;
-      jumps_few = t.few (target_at plan block 1);
-      falls_few = t.few (target_at plan block 2);
-      light = λ choice way i. by choice way i (eqb way 1);
-    }
-      where
-        by : (choice : Choice) (way i : ℕ) (c : Bool)
-            → i < cond c (many (target_at plan block 1)) (many (target_at plan block 2))
-            → cost_at plan block way + (chosen choice (entry_at (cond c jump_source fall_source) i).1).0 < 2 ^ 64
-        by choice way i true h = source_light (target_at plan block 1) f f_size choice way i h
-        by choice way i false h = source_light (target_at plan block 2) g g_size choice way i h
-
-  module _ (words : List ℕ) (built : Built)
-      (is : BuiltAs (row_from plan count table at.lengths block) block words built) where
-    stores_all : built.held ≤ 64 → built.entries ≡ 64
-    stores_all few = is.entries_is ∙ ap (λ c. cond c 64 0) (lt-ltb built.held 65 (omega arith))
-
-    stores_none : 64 < built.held → built.entries ≡ 0
-    stores_none over = is.entries_is ∙ ap (λ c. cond c 64 0) (le-ltb built.held 65 over)
-
-    store_fits : (built.entries ≤ 64) × (built.from + built.entries ≤ length table)
-    store_fits = split (ltb 64 built.held)
-        (λ q. let e = stores_none (ltb-true 64 built.held q) in
-        (omega arith, omega (arith, is.from_is, t.some, t.room)))
-        (λ q. let e = stores_all (ltb-false 64 built.held q) in
-        (omega arith, omega (arith, is.from_is, t.some, t.room)))
-
-    turned : (new : List Entry) → new ≡ stored table built.from words built.entries
-        → turned_by plan count at table new built.held
-    unfolding stored
-    turned new e = record {
-      whole = λ few. record {
-        row = words;
-        holds = is.whole few;
-        table_is = e ∙ ap₂ (λ f n. stored table f words n) is.from_is (stores_all few) ∙ stored_is table
-            (64 * block) words 64 (omega arith) (omega (arith, t.some, t.room));
-      };
-      over = λ m. (is.over m, e ∙ ap (stored table built.from words) (stores_none m));
-    }
-
-  -- the same, for what the covered functions returned
-  module _ (r : Sources) (r_is : r ≡ s) where
-    pub jump_asked : (r.jumps ≤ 64) × ((k : ℕ) → k < r.jumps → r.jump + k < length table)
-    jump_asked = subst (λ (s : Sources). (s.jumps ≤ 64) × ((k : ℕ) → k < s.jumps → s.jump + k < length table))
-        (sym r_is) (t.few (target_at plan block 1), source_inside (target_at plan block 1))
-
-    pub fall_asked : (r.falls ≤ 64) × ((k : ℕ) → k < r.falls → r.fall + k < length table)
-    fall_asked = subst (λ (s : Sources). (s.falls ≤ 64) × ((k : ℕ) → k < s.falls → s.fall + k < length table))
-        (sym r_is) (t.few (target_at plan block 2), source_inside (target_at plan block 2))
-
-    module _ (f : List ℕ) (f_size : length f ≡ 512) (g : List ℕ) (g_size : length g ≡ 512) where
-      abbrev first : Sources → List ℕ
-      first s = fetched f table s.jump s.jumps
-
-      abbrev second : Sources → List ℕ
-      second s = fetched g table s.fall s.falls
-
-      pub make_asked : Ready plan r.b (tails_in r) (first r) (second r)
-      make_asked = subst (λ (s : Sources). Ready plan s.b (tails_in s) (first s) (second s)) (sym r_is)
-          (ready f f_size g g_size)
-
-      module _ (words : List ℕ) (built : Built) (is : BuiltAs (Row r (first r) (second r)) r.b words built) where
-        made : BuiltAs (row_from plan count table at.lengths block) block words built
-        made =
-            subst (λ (l : List (Key × Both)). BuiltAs l block words built) (made_is f f_size g g_size)
-            (subst (λ (s : Sources). BuiltAs (Row s (first s) (second s)) s.b words built) r_is is)
-
-        pub store_asked : (built.entries ≤ 64) × (built.from + built.entries ≤ length table)
-        store_asked = store_fits words built made
-
-        pub turn_made : (new : List Entry) → new ≡ stored table built.from words built.entries
-            → turned_by plan count at table new built.held
-        turn_made new e = turned words built made new e
-
--- a struct's array of words has its words as they are
-pub same_words : (l : List ℕ) → map {A = ℕ} {B = ℕ} (λ v. v) l ≡ l
-same_words [] = refl
-same_words (x ∷ l) = ap (λ r. x ∷ r) (same_words l)
+    turn_made count = λ i. poured_by plan b 2 (part_row 2 two fall fall_is i)
+        (poured_by plan b 1 (part_row 1 one jump jump_is i) (begun_with plan count b))

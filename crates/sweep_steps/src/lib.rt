@@ -1,338 +1,141 @@
-// The sweep's steps over rows of numbers, and what the sweep owes (specs/Answer.antt): which rows a block's row is made
-// of, the row itself, what follows it, and the answer from row 0. Nothing here has a slice of structs, and all is
-// covered; crate sweep puts these steps together over the lent table.
+// The sweep's steps over rows of entries, and what the sweep owes (specs/Answer.antt): whether there is room for it, a
+// block's row made of its targets' rows, what is known of the rows that are complete, and the answer from row 0. Crate
+// sweep puts these steps together over the lent table.
 #![tactic(auto)]
 
-ghost use Rattle.std.specs.Prelude.{◌≡◌, ℕ, max, min, ◌-◌, ◌*◌, ◌^◌, ◌<◌, ◌≤◌, length, get_or};
+ghost use Rattle.std.specs.Prelude.{◌≡◌, ◌*◌, ◌<◌, ◌≤◌, length, get_or, OnOk, OnErr, IfErr};
 ghost use Rattle.laws.specs.Terms.{Choice};
-ghost use Rattle.theory.specs.Plan.{cost_limit};
+ghost use Rattle.theory.specs.Plan.{target_at, cost_limit};
 ghost use Rattle.rows.specs.Rows.{Ready, tails_by, left_from};
-ghost use Rattle.rows.specs.Begun.{begun_with, zero_row};
-ghost use Rattle.sweep_steps.specs.Answer.{no_entry};
-ghost use Rattle.sweep_steps.specs.Turn.{first_of, sources_of, tails_in, whole_of, BuiltAs};
-ghost use Rattle.sweep_steps.specs.Drive.{no_lengths};
-ghost use Rattle.sweep_steps.specs.Driven.{started, following, finished};
-ghost use Rattle.sweep_steps.specs.Ends.{allowed_of, first_weight, entry_in, WeightFew, answer_of, concluded};
-ghost use Rattle.sweep_steps.specs.declared.SweepAnswer.TheVariants.{Refused};
+ghost use Rattle.rows.specs.Begun.{begun_with};
+ghost use Rattle.sweep_steps.specs.Turn.{place_in, MadeOf};
+ghost use Rattle.sweep_steps.specs.Drive.{crowd_at, rows_with};
+ghost use Rattle.sweep_steps.specs.Ends.{room_for, first_weight, answer_of};
 
-use entries::{Entry, Way};
-use plan::Prepared;
-use rows::Tails;
+use entries::Entry;
+use form::{Fault, Refusal};
+use plan::{Prepared, Totals};
+use plan_words::Exit;
+use std::ops::Range;
 
-// Where the drive stands: whether it goes on, the blocks to come, the longest row so far, the length of the last row
-// made, and that of each row that is complete.
-#[derive(Clone, Copy)]
-pub struct Drive {
-    pub going: bool,
-    pub b: usize,
-    pub kept: usize,
-    pub found: usize,
-    pub lengths: [u8; 64],
-}
-
-// What the next block's row is made of: the block, and by each way the first entry of the target's row and how many it
-// has.
-#[derive(Clone, Copy)]
-pub struct Sources {
-    pub b: usize,
-    pub jump: usize,
-    pub jumps: usize,
-    pub fall: usize,
-    pub falls: usize,
-}
-
-// A row that is made: how many entries it has, or 65 where it is crowded; where it goes and how many entries of it.
-#[derive(Clone, Copy)]
-pub struct Built {
-    pub held: usize,
-    pub from: usize,
-    pub entries: usize,
-}
-
-// How many entries row t has; a row that there is none of has none.
-fn length_of(lengths: &[u8], t: usize) -> usize
-    requires { length lengths.now ≡ 64 }
-    ensures { result ≡ get_or lengths.now t 0 }
-{
-    if t < 64 { lengths[t] as usize } else { 0 }
-}
-
-// The first entry of row t, where there is such a row.
-fn first_of(t: usize) -> usize
-    ensures { result ≡ first_of t }
-{
-    if t < 64 { 64 * t } else { 0 }
-}
-
-// The sources of the next block's row.
-pub fn sources_of(plan: &[u64], at: Drive) -> Sources
-    requires { (length plan.now ≡ 1024) × ((0 < at.b) × (at.b ≤ 64)) }
-    ensures { result ≡ sources_of plan.now at.lengths (at.b - 1) }
-{
-    let lengths = at.lengths;
-    let b = at.b - 1;
-    let jump = plan_words::target(plan, b, 1) as usize;
-    let fall = plan_words::target(plan, b, 2) as usize;
-    let jumps = length_of(&lengths, jump);
-    let falls = length_of(&lengths, fall);
-    Sources {
-        b,
-        jump: first_of(jump),
-        jumps,
-        fall: first_of(fall),
-        falls,
-    }
-}
-
-// How many entries of a row are stored: all 64, or none where it is crowded.
-fn whole_of(held: usize) -> usize
-    ensures { result ≡ whole_of held }
-{
-    if held < 65 { 64 } else { 0 }
-}
-
-// The words of a row, all zero.
-fn clear(row: &mut [u64])
-    requires { length row.old ≡ 512 }
-    ensures { row.new ≡ zero_row }
-{
-    let mut k = 0;
-    while k < 512 {
-        row[k] = 0;
-        k += 1;
-    }
-}
-
-// The row of a block, from the rows of its targets, in the place of whatever was made before.
-pub fn make(
-    plan: &[u64],
-    count: usize,
-    s: Sources,
-    first: &[u64],
-    second: &[u64],
-    made: &mut [u64],
-) -> Built
-    requires { Ready plan.now s.b (tails_in s) first.now second.now × (length made.old ≡ 512) }
-    ensures { BuiltAs
-        (left_from plan.now s.b (tails_by (tails_in s) first.now second.now) 1
-        (begun_with plan.now count s.b)) s.b made.new result }
-{
-    let b = s.b;
-    let tails = Tails {
-        jumps: s.jumps,
-        falls: s.falls,
-    };
-    clear(made);
-    let begun = rows::begin(plan, b, count, made);
-    let held = rows::build(plan, b, tails, first, second, made, begun);
-    Built {
-        held,
-        from: 64 * b,
-        entries: whole_of(held),
-    }
-}
-
-// No row is complete.
-fn no_lengths() -> [u8; 64]
-    ensures { result ≡ no_lengths }
-{
-    [0; 64]
-}
-
-// Before the last block. It also tells that the plan's words are 64-bit numbers.
-pub fn start(plan: &[u64], count: usize) -> Drive
-    ensures { (result ≡ started count) × ((k : ℕ) → get_or plan.now k 0 < 2 ^ 64) }
-{
-    let lengths = no_lengths();
-    Drive {
-        going: count > 0,
-        b: count,
-        kept: 0,
-        found: 0,
-        lengths,
-    }
-}
-
-// The greater.
-fn greater(a: usize, b: usize) -> usize
-    ensures { result ≡ max a b }
-{
-    if a < b { b } else { a }
-}
-
-// After a block whose row has so many entries; a crowded one ends the drive.
-#[tactic(auto, using(crate::specs::Driven::following_over))]
-pub fn following_of(at: Drive, found: usize) -> Drive
-    requires { ((0 < at.b) × (at.b ≤ 64)) × (length at.lengths ≡ 64) }
-    ensures { result ≡ following at found }
-{
-    let mut lengths = at.lengths;
-    if found > 64 {
-        return Drive {
-            going: false,
-            b: at.b,
-            kept: at.kept,
-            found,
-            lengths,
-        };
-    }
-    let b = at.b - 1;
-    lengths[b] = found as u8;
-    Drive {
-        going: b > 0,
-        b,
-        kept: greater(at.kept, found),
-        found,
-        lengths,
-    }
-}
-
-// What the rows came to: the highest crowded block, or the longest row and the length of row 0.
-#[derive(Clone, Copy)]
-pub enum Swept {
-    Crowded(usize),
-    Rows { kept: usize, found: usize },
-}
-
-pub fn finish(at: Drive) -> Swept
-    requires { 64 < at.found → 0 < at.b }
-    ensures { result ≡ finished at }
-{
-    if at.found > 64 {
-        return Swept::Crowded(at.b - 1);
-    }
-    Swept::Rows {
-        kept: at.kept,
-        found: at.found,
-    }
-}
-
-// The sweep's answer: the loop count, the weight of the first heaviest route and count times it, the weight of the
-// first lightest route and count times it, and the longest row; or the refusal's number and place.
-#[derive(Clone, Copy)]
-pub enum SweepAnswer {
-    Routed {
-        iterations: u64,
-        weight: u64,
-        bound: u64,
-        least: u64,
-        least_total: u64,
-        kept: u64,
-    },
-    Refused {
-        number: u32,
-        place: usize,
-    },
-}
-
-fn refuse(number: u32, place: usize) -> SweepAnswer
-    ensures { result ≡ Refused number place }
-{
-    SweepAnswer::Refused { number, place }
-}
-
-// From row 0, which has one entry or none: the answer, and both routes' bytes.
-#[tactic(auto, using(crate::specs::Ends::answer_none))]
-fn answer(
-    count: usize,
-    iterations: u64,
-    kept: usize,
-    found: usize,
-    row: &[u64],
-    route: &mut [u8],
-) -> SweepAnswer
-    requires count_in_bounds { (2 * count ≤ length route.old) × ((length row.now ≡ 512) × (iterations < 4294967296)) }
-    requires row_bound { 0 < found → (choice : Choice) → first_weight choice row.now ≤ cost_limit }
-    ensures { (result, route.new) ≡ answer_of count iterations kept found
-        (entry_in row.now) route.old }
-{
-    if found == 0 {
-        return refuse(43, 0);
-    }
-    let first = entries::entry_at(row, 0);
-    let heavy = first.heaviest;
-    let light = first.lightest;
-    plan::route::write_routes(
-        route,
-        count,
-        heavy.jumped,
-        heavy.fallen,
-        light.jumped,
-        light.fallen,
-    );
-    SweepAnswer::Routed {
-        iterations,
-        weight: heavy.weight,
-        bound: iterations * heavy.weight,
-        least: light.weight,
-        least_total: iterations * light.weight,
-        kept: kept as u64,
-    }
-}
-
-// How many blocks are swept: none where the routes' bytes or the table's entries are too few.
-pub fn allowed(count: usize, entries: usize, bytes: usize) -> usize
+// Whether there is room for both routes' bytes, and for the rows of so many blocks.
+pub fn check_room(count: usize, bytes: usize, entries: usize) -> Result<(), Refusal>
     requires { count ≤ 64 }
-    ensures { result ≡ allowed_of count entries bytes }
+    ensures { result ≡ room_for count bytes entries }
 {
     if bytes < 2 * count {
-        return 0;
+        return Err(Refusal {
+            fault: Fault::ShortRoom,
+            place: 2 * count,
+        });
     }
     if entries < 64 * count {
-        return 0;
+        return Err(Refusal {
+            fault: Fault::ShortTable,
+            place: 64 * count,
+        });
     }
-    count
+    Ok(())
 }
 
-// The lesser.
-pub fn lesser(a: usize, b: usize) -> usize
-    ensures { result ≡ min a b }
+// The row of block b from the entries of its targets' rows, in the place of whatever was made before; how many entries
+// it has, or 65 where it is crowded: a count and no Option, see entries::insert. Plan and count stand apart and are no
+// `&Prepared`: (c) tried; with it the fact that the plan's words fit has only names that may change.
+pub fn make(
+    plan: &[u64; 1024],
+    count: usize,
+    b: usize,
+    jumps: &[Entry],
+    falls: &[Entry],
+    made: &mut [Entry; 64],
+) -> usize
+    requires { Ready plan.now b jumps.now falls.now }
+    ensures { MadeOf
+        (left_from plan.now b (tails_by jumps.now falls.now) 1 (begun_with plan.now count b)) made.new result }
 {
-    if a < b { a } else { b }
+    let begun = rows::begin(plan, b, count, made);
+    rows::build(plan, b, jumps, falls, made, begun)
 }
 
-// The answer, from the rows and row 0; both routes' bytes.
-#[tactic(auto, using(crate::specs::Ends::unstarted))]
-pub fn conclude(
-    ready: Prepared,
-    entries: usize,
-    swept: Swept,
-    first: [u64; 512],
+// The rows that are complete: how many entries each has, and how many the longest has. The lengths stand beside the
+// table: (a) a zero entry may be a real one, and the table's entries are C's.
+#[derive(Clone, Copy)]
+pub struct Rows {
+    pub lengths: [u8; 64],
+    pub kept: usize,
+}
+
+impl Rows {
+    // Where the entries of row t stand in the table; a row that there is none of has none.
+    fn place(&self, t: usize) -> Range<usize>
+        ensures { result ≡ place_in self.now.lengths t }
+    {
+        if t < self.lengths.len() {
+            64 * t..64 * t + usize::from(self.lengths[t])
+        } else {
+            0..0
+        }
+    }
+
+    // Where the entries of the rows of the targets of block b stand in the table, by jump or go and by fall.
+    pub fn sources(&self, plan: &[u64; 1024], b: usize) -> (Range<usize>, Range<usize>)
+        requires { b < 64 }
+        ensures jump { result.0 ≡ place_in self.now.lengths (target_at plan.now b 1) }
+        ensures fall { result.1 ≡ place_in self.now.lengths (target_at plan.now b 2) }
+    {
+        let jump = plan_words::target(plan, b, Exit::Jump);
+        let fall = plan_words::target(plan, b, Exit::Fall);
+        (self.place(jump as usize), self.place(fall as usize))
+    }
+
+    // Row b has so many entries, and is complete; with a 65th, block b is crowded.
+    pub fn add(&mut self, b: usize, held: usize) -> Result<(), Refusal>
+        requires { b < 64 }
+        ensures complete { OnOk result ((held ≤ 64) × (self.new ≡ rows_with self.old b held)) }
+        ensures crowded { OnErr result ((64 < held) × (self.new ≡ self.old)) }
+        ensures refusal { IfErr result (λ refusal. refusal ≡ crowd_at b) }
+    {
+        if held > 64 {
+            let crowded = Refusal {
+                fault: Fault::Crowded,
+                place: b,
+            };
+            return Err(crowded);
+        }
+        self.lengths[b] = held as u8;
+        self.kept = self.kept.max(held);
+        Ok(())
+    }
+}
+
+// The sweep's answer where there are routes: what both ways answer, and how many entries the longest row has.
+#[derive(Clone, Copy, Debug, PartialEq, Eq)]
+pub struct Routed {
+    pub totals: Totals,
+    pub kept: u64,
+}
+
+// The answer from all rows and row 0's entry, and both routes' bytes. With no entry in row 0 there is no route.
+pub fn answer(
+    ready: &Prepared,
+    rows: &Rows,
+    first: Entry,
     route: &mut [u8],
-) -> SweepAnswer
-    requires { (ready.count ≤ 64) ×
-        ((ready.number ≡ 0 → ready.iterations < 4294967296) × WeightFew swept first) }
-    ensures { (result, route.new) ≡ concluded ready entries swept first route.old }
+) -> Result<Routed, Refusal>
+    requires count_in_bounds { (2 * ready.now.count ≤ length route.old) × (ready.now.iterations < 4294967296) }
+    requires row_bound { 0 < get_or rows.now.lengths 0 0 → (choice : Choice) → first_weight choice first ≤ cost_limit }
+    ensures { (result, route.new) ≡ answer_of ready.now.count ready.now.iterations rows.now first route.old }
 {
-    if ready.number > 0 {
-        return refuse(ready.number, ready.place);
+    if rows.lengths[0] == 0 {
+        return Err(Refusal {
+            fault: Fault::NoRoute,
+            place: 0,
+        });
     }
-    let count = ready.count;
-    if route.len() < 2 * count {
-        return refuse(42, 2 * count);
-    }
-    if entries < 64 * count {
-        return refuse(44, 64 * count);
-    }
-    match swept {
-        Swept::Crowded(b) => refuse(40, b),
-        Swept::Rows { kept, found } => answer(count, ready.iterations, kept, found, &first, route),
-    }
-}
-
-// A zero entry.
-pub fn no_entry() -> Entry
-    ensures { result ≡ no_entry }
-{
-    let way = Way {
-        weight: 0,
-        jumped: 0,
-        fallen: 0,
-    };
-    Entry {
-        jumps: 0,
-        falls: 0,
-        heaviest: way,
-        lightest: way,
-    }
+    let (heaviest, lightest) = (first.heaviest, first.lightest);
+    plan::route::write_routes(route, ready.count, heaviest.into(), lightest.into());
+    Ok(Routed {
+        totals: Totals::of(ready.iterations, heaviest.weight, lightest.weight),
+        kept: rows.kept as u64,
+    })
 }

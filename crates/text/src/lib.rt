@@ -1,42 +1,54 @@
-// The report's text, put together in lent bytes: each function adds to what stands there before `at`, and answers where
-// its text ends.
+// The report's text, put together in lent bytes: each function adds its part behind what is there.
 #![tactic(auto)]
 
-ghost use Rattle.std.specs.Prelude.{◌≡◌, ◌+◌, ◌≤◌, length};
-ghost use Rattle.lent.specs.Adding.{Adds};
+ghost use Rattle.std.specs.Prelude.{◌≡◌, ◌∷◌, [], ◌+◌, ◌≤◌, length};
+ghost use Rattle.lent.specs.Filled.{Grows};
 ghost use Rattle.text.specs.Text.{decimal, line as line_text, refusal_line, letter_of, step as step_text, route_line};
 
-// A number in decimal digits.
-fn number(out: &mut [u8], at: usize, n: u64) -> usize
-    requires { at + 20 ≤ length out.old }
-    ensures { Adds out.old at out.new result (decimal n) × (result ≤ at + 20) }
+use lent::Filled;
+
+// A number in decimal digits. (`write!` promises what stands there where it succeeds, and not that it succeeds where
+// there is room; `io::decimal` always does.)
+fn number(out: &mut Filled, n: u64)
+    requires { out.old.end + 20 ≤ length out.old.bytes.now }
+    ensures grows { Grows out.old out.new (decimal n) }
+    ensures few { out.new.end ≤ out.old.end + 20 }
 {
     let mut digits = [0u8; 20];
     let k = io::decimal(n, &mut digits);
-    lent::put(out, at, &digits[..k])
+    out.add(&digits[..k]);
+}
+
+fn end_line(out: &mut Filled)
+    requires { out.old.end + 1 ≤ length out.old.bytes.now }
+    ensures { Grows out.old out.new (10 ∷ []) }
+{
+    out.add(b"\n");
 }
 
 // A word and a number.
-pub fn line(out: &mut [u8], at: usize, word: &[u8], n: u64) -> usize
-    requires { at + length word.now + 21 ≤ length out.old }
-    ensures { Adds out.old at out.new result (line_text word.now n) ×
-        (result ≤ at + length word.now + 21) }
+pub fn line(out: &mut Filled, word: &[u8], n: u64)
+    requires { out.old.end + length word.now + 21 ≤ length out.old.bytes.now }
+    ensures grows { Grows out.old out.new (line_text word.now n) }
+    ensures few { out.new.end ≤ out.old.end + length word.now + 21 }
 {
-    let a = lent::put(out, at, word);
-    let b = number(out, a, n);
-    lent::put(out, b, b"\n")
+    out.add(word);
+    number(out, n);
+    end_line(out);
 }
 
-// A refusal: its number and place.
-pub fn refused(out: &mut [u8], n: u64, place: u64) -> usize
-    requires { 60 ≤ length out.old }
-    ensures { Adds out.old 0 out.new result (refusal_line n place) × (result ≤ 60) }
+// A refusal: its number and place. (a) Two numbers, and no reason, since they are those of its line (`refusal_line`).
+pub fn refused(out: &mut Filled, n: u64, place: u64)
+    requires { out.old.end + 60 ≤ length out.old.bytes.now }
+    ensures grows { Grows out.old out.new (refusal_line n place) }
+    ensures few { out.new.end ≤ out.old.end + 60 }
 {
-    let a = lent::put(out, 0, b"refused ");
-    let b = number(out, a, n);
-    line(out, b, b" at ", place)
+    out.add(b"refused ");
+    number(out, n);
+    line(out, b" at ", place);
 }
 
+// (a) Ways are numbers here, since they are document 01's route bytes, and `letter_of` says what each prints as.
 fn letter(way: u8) -> u8
     ensures { result ≡ letter_of way }
 {
@@ -47,31 +59,30 @@ fn letter(way: u8) -> u8
     }
 }
 
-// A block that is on the route, with its way.
-fn step(out: &mut [u8], at: usize, block: usize, way: u8) -> usize
-    requires { at + 22 ≤ length out.old }
-    ensures { Adds out.old at out.new result (step_text block way) × (result ≤ at + 22) }
+// A block that is on the route, with its way, a route byte as in `letter`.
+fn step(out: &mut Filled, block: usize, way: u8)
+    requires { out.old.end + 22 ≤ length out.old.bytes.now }
+    ensures grows { Grows out.old out.new (step_text block way) }
+    ensures few { out.new.end ≤ out.old.end + 22 }
 {
     if way == 0 {
-        return at;
+        return;
     }
-    let a = lent::put(out, at, b" ");
-    let b = number(out, a, block as u64);
-    let last = [letter(way)];
-    lent::put(out, b, &last)
+    out.add(b" ");
+    number(out, block as u64);
+    out.add(&[letter(way)]);
 }
 
 // A word, and the blocks on a route with their ways.
-pub fn route(out: &mut [u8], at: usize, word: &[u8], bytes: &[u8]) -> usize
-    requires { (at + length word.now + 1409 ≤ length out.old) × (length bytes.now ≤ 64) }
-    ensures { Adds out.old at out.new result
-        (route_line word.now bytes.now) × (result ≤ at + length word.now + 1409) }
+pub fn route(out: &mut Filled, word: &[u8], ways: &[u8])
+    requires room { out.old.end + length word.now + 1409 ≤ length out.old.bytes.now }
+    requires few { length ways.now ≤ 64 }
+    ensures grows { Grows out.old out.new (route_line word.now ways.now) }
+    ensures few { out.new.end ≤ out.old.end + length word.now + 1409 }
 {
-    let mut to = lent::put(out, at, word);
-    let mut block = 0;
-    while block < bytes.len() {
-        to = step(out, to, block, bytes[block]);
-        block += 1;
+    out.add(word);
+    for (block, &way) in ways.iter().enumerate() {
+        step(out, block, way);
     }
-    lent::put(out, to, b"\n")
+    end_line(out);
 }

@@ -1,180 +1,161 @@
-// What the reader says of any bytes: the verdict, 10 to 19 with its place, or accepted. The records are decoded in
+// What the reader says of any bytes: a form, or why it is none, 10 to 19, and its place. The records are decoded in
 // crate records, and judged by themselves in crate faults; here is their order, and what is judged of the whole form.
 // What each function means is in form's Form and Answer.
 #![tactic(auto)]
 
-ghost use Rattle.std.specs.Prelude.{◌≡◌, ◌+◌, ◌<◌, ◌≤◌, ◌^◌, length};
-ghost use Rattle.form.specs.Form.{when, one_if, records_from, bad_field};
-ghost use Rattle.form.specs.Form.{bad_target, out_of_place, over_limit, payload_fault, record_fault, end_fault, judge_ends};
-ghost use Rattle.form.specs.Answer.{accepted, Judged};
+ghost use Rattle.std.specs.Prelude.{◌≡◌, ◌+◌, ◌<◌, ◌^◌, length, Err};
+ghost use Rattle.form.specs.Said.{Accepted, verdict_of};
+ghost use Rattle.form.specs.Form.{records_from, bad_field, bad_target, out_of_place, over_limit, payload_fault};
+ghost use Rattle.form.specs.Form.{record_fault, end_fault, judged, judge_ends};
+ghost use Rattle.form.specs.Answer.{Judged};
 
-use form::Verdict;
-use records::{BLOCK, COUNTER, EFFECT, UNKNOWN};
+use form::{Fault, Kind, MOST_BLOCKS, MOST_EFFECTS, Refusal};
+use records::Record;
 
-// The number where the test holds, else the rest.
-fn refuse_if(test: bool, number: u32, rest: u32) -> u32
-    ensures { result ≡ when test number rest }
-{
-    if test { number } else { rest }
+// The blocks and the effects before a record.
+#[derive(Clone, Copy, Default)]
+struct Passed {
+    blocks: usize,
+    effects: usize,
 }
 
-fn one_if(test: bool) -> usize
-    ensures { (result ≡ one_if test) × (result ≤ 1) }
+// Refused for this reason, with this place.
+fn refused(fault: Fault, place: usize) -> Result<(), Refusal>
+    ensures { result ≡ Err (record { fault = fault; place = place }) }
 {
-    if test { 1 } else { 0 }
+    Err(Refusal { fault, place })
 }
 
-// 15 of the record at `at`, whatever it is.
-fn bad_field(s: &[u8], at: usize) -> bool
-    requires { at + 32 < 2 ^ 64 }
-    ensures { result ≡ bad_field s.now at }
+// 15 of the record, whatever it is.
+#[tactic(auto, unfolding(form::specs::Form::bad_field))]
+fn bad_field(here: &Record) -> bool
+    ensures { result ≡ bad_field here.now.form.now here.now.at }
 {
-    let kind = records::kind_at(s, at);
-    let role = kind.role;
-    if role == BLOCK {
-        return faults::bad_block(records::block_at(s, at, 0));
+    match here.kind() {
+        Kind::Unknown => false,
+        Kind::Counter => faults::bad_counter(here.counter()),
+        Kind::Block => faults::bad_block(here.block(0)),
+        Kind::Effect => faults::bad_effect(here.effect()),
     }
-    if role == EFFECT {
-        return faults::bad_effect(records::effect_at(s, at));
-    }
-    if role == COUNTER {
-        return faults::bad_counter(records::counter_at(s, at));
-    }
-    false
 }
 
-// 16 of the record at `at`.
-fn bad_target(s: &[u8], at: usize, b: usize) -> bool
-    requires { at + 32 < 2 ^ 64 }
-    ensures { result ≡ bad_target s.now at b }
+// 16 of the record, with b blocks before it.
+#[tactic(auto, unfolding(form::specs::Form::bad_target))]
+fn bad_target(here: &Record, b: usize) -> bool
+    ensures { result ≡ bad_target here.now.form.now here.now.at b }
 {
-    let kind = records::kind_at(s, at);
-    if kind.role == BLOCK {
-        return faults::low_target(records::block_at(s, at, 0), b);
-    }
-    false
+    here.kind() == Kind::Block && faults::low_target(here.block(0), b)
 }
 
 // 13: the first record no counter, a later counter, or an effect before any block.
-fn out_of_place(s: &[u8], at: usize, b: usize) -> bool
-    requires { at + 32 < 2 ^ 64 }
-    ensures { result ≡ out_of_place s.now at b }
+#[tactic(auto, unfolding(form::specs::Form::out_of_place))]
+fn out_of_place(here: &Record, b: usize) -> bool
+    ensures { result ≡ out_of_place here.now.form.now here.now.at b }
 {
-    let kind = records::kind_at(s, at);
-    let role = kind.role;
-    ((at == 0) & !(role == COUNTER))
-        | (((0 < at) & (role == COUNTER)) | ((role == EFFECT) & (b == 0)))
+    let kind = here.kind();
+    (here.at == 0) != (kind == Kind::Counter) || kind == Kind::Effect && b == 0
 }
 
 // 14: the 65th block or the 257th effect.
-fn over_limit(s: &[u8], at: usize, b: usize, e: usize) -> bool
-    requires { at + 32 < 2 ^ 64 }
-    ensures { result ≡ over_limit s.now at b e }
+#[tactic(auto, unfolding(form::specs::Form::over_limit))]
+fn over_limit(here: &Record, passed: Passed) -> bool
+    ensures { result ≡ over_limit here.now.form.now here.now.at passed.blocks passed.effects }
 {
-    let kind = records::kind_at(s, at);
-    ((kind.role == BLOCK) & (64 <= b)) | ((kind.role == EFFECT) & (256 <= e))
-}
-
-// 13 to 16 of the record at `at`, with b blocks and e effects before it; 0 if none applies.
-fn payload_fault(s: &[u8], at: usize, b: usize, e: usize) -> u32
-    requires { at + 32 < 2 ^ 64 }
-    ensures { result ≡ payload_fault s.now at b e }
-{
-    let target = refuse_if(bad_target(s, at, b), 16, 0);
-    let field = refuse_if(bad_field(s, at), 15, target);
-    let limit = refuse_if(over_limit(s, at, b, e), 14, field);
-    refuse_if(out_of_place(s, at, b), 13, limit)
-}
-
-// What is wrong with the record at `at`, with b blocks and e effects before it; 0 if nothing.
-fn record_fault(s: &[u8], at: usize, b: usize, e: usize) -> u32
-    requires { (at < length s.now) × (at + 32 < 2 ^ 64) }
-    ensures { result ≡ record_fault s.now at b e }
-{
-    let left = s.len() - at;
-    let length = records::short_at(s, at);
-    let kind = records::kind_at(s, at);
-    let beyond = refuse_if(left < length as usize, 10, payload_fault(s, at, b, e));
-    let wrong = refuse_if(!(length == kind.length), 11, beyond);
-    refuse_if(left < 4, 10, refuse_if(kind.role == UNKNOWN, 12, wrong))
-}
-
-// What is wrong with a block at `at`, number k of n; 0 if nothing.
-fn end_fault(s: &[u8], at: usize, n: usize, k: usize) -> u32
-    requires { (at + 32 < 2 ^ 64) × (k + 1 < 2 ^ 64) }
-    ensures { result ≡ end_fault s.now at n k }
-{
-    let kind = records::kind_at(s, at);
-    if kind.role == BLOCK {
-        let block = records::block_at(s, at, 0);
-        return refuse_if(
-            faults::bad_end(block, n, k),
-            18,
-            refuse_if(faults::far_target(block, n), 19, 0),
-        );
+    match here.kind() {
+        Kind::Block => MOST_BLOCKS <= passed.blocks,
+        Kind::Effect => MOST_EFFECTS <= passed.effects,
+        _ => false,
     }
-    0
+}
+
+// 13 to 16 of the record.
+#[tactic(auto, unfolding(form::specs::Form::payload_fault))]
+fn judge_payload(here: &Record, passed: Passed) -> Result<(), Refusal>
+    ensures { verdict_of result
+        ≡ judged (payload_fault here.now.form.now here.now.at passed.blocks passed.effects) here.now.at Accepted }
+{
+    if out_of_place(here, passed.blocks) {
+        return refused(Fault::Misplaced, here.at);
+    }
+    if over_limit(here, passed) {
+        return refused(Fault::OverLimit, here.at);
+    }
+    if bad_field(here) {
+        return refused(Fault::BadField, here.at);
+    }
+    if bad_target(here, passed.blocks) {
+        return refused(Fault::LowTarget, here.at);
+    }
+    Ok(())
+}
+
+// 10 to 16 of the record.
+#[tactic(auto, unfolding(form::specs::Form::record_fault))]
+fn judge_record(here: &Record, passed: Passed) -> Result<(), Refusal>
+    requires { here.now.at < length here.now.form.now }
+    ensures { verdict_of result
+        ≡ judged (record_fault here.now.form.now here.now.at passed.blocks passed.effects) here.now.at Accepted }
+{
+    let left = here.form.len() - here.at;
+    if left < 4 {
+        return refused(Fault::CutShort, here.at);
+    }
+    if here.kind() == Kind::Unknown {
+        return refused(Fault::UnknownKind, here.at);
+    }
+    if here.stated_length() != here.length() {
+        return refused(Fault::WrongLength, here.at);
+    }
+    if left < here.stated_length() {
+        return refused(Fault::CutShort, here.at);
+    }
+    judge_payload(here, passed)
+}
+
+// 18 and 19 of the record, where it is a block, number k of n.
+#[tactic(auto, unfolding(form::specs::Form::end_fault))]
+fn judge_end(here: &Record, n: usize, k: usize) -> Result<(), Refusal>
+    requires { k + 1 < 2 ^ 64 }
+    ensures { verdict_of result ≡ judged (end_fault here.now.form.now here.now.at n k) here.now.at Accepted }
+{
+    if here.kind() != Kind::Block {
+        return Ok(());
+    }
+    let block = here.block(0);
+    if faults::bad_end(block, n, k) {
+        return refused(Fault::BadEnd, here.at);
+    }
+    if faults::far_target(block, n) {
+        return refused(Fault::FarTarget, here.at);
+    }
+    Ok(())
 }
 
 // 18 and 19, block by block of the n.
-fn judge_ends(s: &[u8], n: usize) -> Verdict
-    ensures { result ≡ judge_ends s.now n (records_from s.now 0) 0 }
+fn judge_ends(s: &[u8], n: usize) -> Result<(), Refusal>
+    ensures { verdict_of result ≡ judge_ends s.now n (records_from s.now 0) 0 }
 {
-    let mut at = 0;
     let mut k = 0;
-    while at < s.len() {
-        let fault = end_fault(s, at, n, k);
-        if fault != 0 {
-            return Verdict::Refused {
-                number: fault,
-                place: at,
-            };
-        }
-        let kind = records::kind_at(s, at);
-        k += one_if(kind.role == BLOCK);
-        at += kind.length as usize;
+    for record in records::of(s) {
+        judge_end(&record, n, k)?;
+        k += usize::from(record.kind() == Kind::Block);
     }
-    Verdict::Accepted
+    Ok(())
 }
 
-// What the reader says of any bytes: 10 to 19 with its place, or accepted.
-pub fn judge(s: &[u8]) -> Verdict
-    ensures { Judged s.now result }
+// Whether any bytes are a form; if not, why, 10 to 19, with its place.
+#[tactic(auto, unfolding(form::specs::Form::judge))]
+pub fn judge(s: &[u8]) -> Result<(), Refusal>
+    ensures { Judged s.now (verdict_of result) }
 {
-    let mut at = 0;
-    let mut b = 0;
-    let mut e = 0;
-    while at < s.len() {
-        let fault = record_fault(s, at, b, e);
-        if fault != 0 {
-            return Verdict::Refused {
-                number: fault,
-                place: at,
-            };
-        }
-        let kind = records::kind_at(s, at);
-        b += one_if(kind.role == BLOCK);
-        e += one_if(kind.role == EFFECT);
-        at += kind.length as usize;
+    let mut passed = Passed::default();
+    for record in records::of(s) {
+        judge_record(&record, passed)?;
+        passed.blocks += usize::from(record.kind() == Kind::Block);
+        passed.effects += usize::from(record.kind() == Kind::Effect);
     }
-    if b == 0 {
-        return Verdict::Refused {
-            number: 17,
-            place: s.len(),
-        };
+    if passed.blocks == 0 {
+        return refused(Fault::NoBlock, s.len());
     }
-    judge_ends(s, b)
-}
-
-// Whether the verdict accepts.
-pub fn accepts(verdict: Verdict) -> bool
-    ensures { result ≡ accepted verdict }
-{
-    match verdict {
-        Verdict::Accepted => true,
-        Verdict::Refused {
-            number: _,
-            place: _,
-        } => false,
-    }
+    judge_ends(s, passed.blocks)
 }

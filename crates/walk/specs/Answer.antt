@@ -1,21 +1,22 @@
 -- The full walk's answer, after document 01, 'Full walk' and 'Refusal numbers', and request A1. Trusted: definitions
 -- only. Rests on plan's Owed (the values and bytes of both routes) and on theory's Route (walked, the two sides of the
 -- answer and their routes).
-use Rattle.std.specs.Prelude.{cond, List, ℕ, ltb, length}
+use Rattle.std.specs.Prelude.{cond, List, ℕ, ltb, length, Result, Ok, Err}
 use Rattle.std.proofs.Math.Option.{Option, none, some}
 use Rattle.laws.specs.Terms.{Choice}
 use Rattle.form.specs.declared.Body.{Body}
+use Rattle.form.specs.declared.Refusal.{Refusal}
+use Rattle.form.specs.Said.{number_of}
 use Rattle.form.specs.Form.{body_of}
 use Rattle.theory.specs.Route.{Routes, Side, side_of, routes_on, walked}
 use Rattle.plan.specs.Owed.{Owed, Values, refusal, answered, routed_values, bytes_needed, routed_bytes}
-use Rattle.walk.specs.declared.WalkAnswer.{WalkAnswer}
-use Rattle.walk.specs.declared.WalkAnswer.TheVariants.{Walked, Refused}
+use Rattle.walk.specs.declared.Walked.{Walked}
 
 -- in document 01's numbers
-abbrev pub said : WalkAnswer → Values
-said (Walked iterations weight bound least least_total walked) =
-    answered iterations weight bound least least_total walked
-said (Refused number place) = refusal number place
+abbrev pub said : Result Walked Refusal → Values
+said (Ok w) =
+    answered w.totals.iterations w.totals.weight w.totals.bound w.totals.least w.totals.least_total w.walked
+said (Err r) = refusal (number_of r.fault) r.place
 
 -- ---- what is owed: the answer, and what the lent bytes hold after it
 

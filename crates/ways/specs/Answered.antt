@@ -9,7 +9,7 @@ use Rattle.std.proofs.Math.Option.{Option, none, some}
 use Rattle.std.proofs.lemmas.List.{length-map}
 use Rattle.laws.specs.Terms.{Choice, heaviest, lightest, chosen, Mem, range}
 use Rattle.form.specs.declared.Body.{Body}
-use Rattle.form.specs.declared.Verdict.TheVariants.{Accepted, Refused}
+use Rattle.form.specs.Said.{Accepted, Refused}
 use Rattle.form.specs.Form.{judge, body_of}
 use Rattle.lower_laws.specs.Loops.{count_once}
 use Rattle.roundtrip.specs.Refusals.{reader_gives}

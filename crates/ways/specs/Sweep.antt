@@ -2,21 +2,22 @@
 -- so no run costs more than the bound or less than the least total (`sweep_bounds`); for every input one answer, one
 -- content of the lent bytes and one of the lent table, refusals too (`one_sweep`), also over a table of its own
 -- (`one_own`, `own_answered`); and which refusals it gives (`sweep_gives`). Rests on Answered and sweep_steps' Answer.
-use Rattle.std.specs.Prelude.{◌≡◌, refl, ◌⊎◌, Bool, true, false, cond, List, [], ◌∷◌, ℕ, ◌*◌, ◌≤◌, ltb, length}
+use Rattle.std.specs.Prelude.{◌≡◌, refl, ◌⊎◌, Bool, true, false, cond, List, [], ◌∷◌, ℕ, ◌*◌, ◌≤◌, ltb, length, Result}
 use Rattle.std.proofs.Common.{sym, ap, subst, ◌∙◌, inl, inr, arith}
 use Rattle.std.proofs.Math.Option.{Option, none, some}
 use Rattle.laws.specs.Terms.{Mem}
 use Rattle.form.specs.declared.Body.{Body}
-use Rattle.form.specs.declared.Verdict.TheVariants.{Accepted}
+use Rattle.form.specs.declared.Refusal.{Refusal}
+use Rattle.form.specs.Said.{Accepted}
 use Rattle.form.specs.Form.{judge, body_of}
 use Rattle.theory.specs.Route.{Routes, routes_on}
 use Rattle.theory.specs.Row.{kept, crowded}
-use Rattle.plan.specs.Owed.{CountOf, Values, refusal, bytes_needed}
+use Rattle.plan.specs.Owed.{CountOf, bytes_needed}
 use Rattle.plan.specs.Accepted.{owed_once}
 use Rattle.entries.specs.declared.Entry.{Entry}
-use Rattle.sweep_steps.specs.declared.SweepAnswer.{SweepAnswer}
-use Rattle.sweep_steps.specs.declared.SweepAnswer.TheVariants.{Routed, Refused}
+use Rattle.sweep_steps.specs.declared.Routed.{Routed}
 use Rattle.sweep_steps.specs.Answer.{said, Outcome, outcome_of, refused, routed, swept, sweep_outcome, SweepOwed, own_table, OwnTableOwed}
+use Rattle.sweep_steps.specs.OneAnswer.{one_said}
 use Rattle.ways.specs.Answered.{sides_of, Answered, answered_by, Bounds, answered_bounds, Call, no_refusal, gives}
 
 module _ (form : List ℕ) (lent : List ℕ) (table : List Entry) where
@@ -113,44 +114,25 @@ module _ (form : List ℕ) (lent : List ℕ) (table : List Entry) where
 
   -- ---- one answer
 
-  -- a refusal's values are no route's: a count is at least 1
-  mixed : (v : Values) (number place : ℕ) (held : List ℕ) (rows : List Entry) → v.number ≡ 0
-      → v ≡ refusal number place → SweepOwed form lent table (outcome_of (Refused number place) held rows) → ⊥
-  mixed v number place held rows z e o =
-      let a = sweep_answered (outcome_of (Refused number place) held rows) o
-      (sym (ap (λ (v : Values). v.number) e) ∙ z) in
-      omega (arith, a.counts.enough)
-
-  same_answer : (a b : SweepAnswer) (held held' : List ℕ) (rows rows' : List Entry) → said a ≡ said b
-      → SweepOwed form lent table (outcome_of a held rows)
-      → SweepOwed form lent table (outcome_of b held' rows') → a ≡ b
-  same_answer (Routed i w n u v k) (Routed i' w' n' u' v' k') held held' rows rows' e o p =
-      λ t. Routed (e t).iterations (e t).weight (e t).bound (e t).least (e t).least_total (e t).kept_or_walked
-  same_answer (Routed i w n u v k) (Refused m q) held held' rows rows' e o p =
-      absurd (mixed (said (Routed i w n u v k)) m q held' rows' refl e p)
-  same_answer (Refused m q) (Routed i w n u v k) held held' rows rows' e o p =
-      absurd (mixed (said (Routed i w n u v k)) m q held rows refl (sym e) o)
-  same_answer (Refused n p) (Refused m q) held held' rows rows' e o f = λ t. Refused (e t).number (e t).place
-
-  pub one_sweep : (a b : SweepAnswer) (held held' : List ℕ) (rows rows' : List Entry)
+  pub one_sweep : (a b : Result Routed Refusal) (held held' : List ℕ) (rows rows' : List Entry)
       → SweepOwed form lent table (outcome_of a held rows) → SweepOwed form lent table (outcome_of b held' rows')
       → (a ≡ b) × ((held ≡ held') × (rows ≡ rows'))
   one_sweep a b held held' rows rows' o p =
       let e =
       owed_once form (refused lent table) (sweep_outcome body (sides_of form) lent table) (outcome_of a held rows)
       (outcome_of b held' rows') o p in (
-        same_answer a b held held' rows rows' (ap (λ (x : Outcome). x.values) e) o p,
+        one_said a b (ap (λ (x : Outcome). x.values) e),
         (ap (λ (x : Outcome). x.route) e, ap (λ (x : Outcome). x.table) e),
       )
 
 -- ---- over a table of its own
 
 module _ (form lent : List ℕ) where
-  pub own_answered : (answer : SweepAnswer) (held : List ℕ) → OwnTableOwed form lent answer held
+  pub own_answered : (answer : Result Routed Refusal) (held : List ℕ) → OwnTableOwed form lent answer held
       → (said answer).number ≡ 0 → Answered form lent (said answer) held
   own_answered answer held (rows, o) z = sweep_answered form lent own_table (outcome_of answer held rows) o z
 
-  pub one_own : (a b : SweepAnswer) (held held' : List ℕ) → OwnTableOwed form lent a held
+  pub one_own : (a b : Result Routed Refusal) (held held' : List ℕ) → OwnTableOwed form lent a held
       → OwnTableOwed form lent b held' → (a ≡ b) × (held ≡ held')
   one_own a b held held' (rows, o) (rows', p) = let e =
       one_sweep form lent own_table a b held held' rows rows' o p in (e.0, e.1.0)

@@ -2,18 +2,19 @@
 -- (`walk_answered`), so no run costs more than the bound or less than the least total (`walk_bounds`); for every input
 -- one answer and one content of the lent bytes, refusals too (`one_walk`); and which refusals it gives (`walk_gives`).
 -- Rests on Answered and walk's Answer.
-use Rattle.std.specs.Prelude.{◌≡◌, refl, ◌⊎◌, Bool, true, false, cond, List, [], ◌∷◌, ℕ, ◌≤◌, ltb, length}
+use Rattle.std.specs.Prelude.{◌≡◌, refl, ◌⊎◌, Bool, true, false, cond, List, [], ◌∷◌, ℕ, ◌≤◌, ltb, length, Result, Ok, Err}
 use Rattle.std.proofs.Common.{sym, ap, ◌∙◌, inl, inr, arith}
 use Rattle.std.proofs.Math.Option.{Option, none, some}
 use Rattle.laws.specs.Terms.{Mem}
 use Rattle.form.specs.declared.Body.{Body}
-use Rattle.form.specs.declared.Verdict.TheVariants.{Accepted}
+use Rattle.form.specs.declared.Refusal.{Refusal}
+use Rattle.form.specs.Said.{Accepted, number_of}
+use Rattle.form.specs.OneCase.{one_refusal}
 use Rattle.form.specs.Form.{judge, body_of}
 use Rattle.theory.specs.Route.{Routes, routes_on, walked}
 use Rattle.plan.specs.Owed.{CountOf, Values, refusal, bytes_needed}
 use Rattle.plan.specs.Accepted.{owed_once}
-use Rattle.walk.specs.declared.WalkAnswer.{WalkAnswer}
-use Rattle.walk.specs.declared.WalkAnswer.TheVariants.{Walked, Refused}
+use Rattle.walk.specs.declared.Walked.{Walked}
 use Rattle.walk.specs.Answer.{said, Outcome, refused, routed, walk_outcome, WalkOwed}
 use Rattle.ways.specs.Answered.{sides_of, Answered, answered_by, Bounds, answered_bounds, Call, no_refusal, gives}
 
@@ -92,17 +93,27 @@ module _ (form : List ℕ) (budget : ℕ) (lent : List ℕ) where
       let a = walk_answered (refusal number place, held) o (sym (ap (λ (v : Values). v.number) e) ∙ z) in
       omega (arith, a.counts.enough)
 
-  same_answer : (a b : WalkAnswer) (held kept : List ℕ) → said a ≡ said b → WalkOwed form budget lent (said a, held)
-      → WalkOwed form budget lent (said b, kept) → a ≡ b
-  same_answer (Walked i w n u v k) (Walked i' w' n' u' v' k') held kept e o p =
-      λ t. Walked (e t).iterations (e t).weight (e t).bound (e t).least (e t).least_total (e t).kept_or_walked
-  same_answer (Walked i w n u v k) (Refused m q) held kept e o p =
-      absurd (mixed (said (Walked i w n u v k)) m q kept refl e p)
-  same_answer (Refused m q) (Walked i w n u v k) held kept e o p =
-      absurd (mixed (said (Walked i w n u v k)) m q held refl (sym e) o)
-  same_answer (Refused n p) (Refused m q) held kept e o f = λ t. Refused (e t).number (e t).place
+  same_answer : (a b : Result Walked Refusal) (held kept : List ℕ) → said a ≡ said b
+      → WalkOwed form budget lent (said a, held) → WalkOwed form budget lent (said b, kept) → a ≡ b
+  same_answer (Ok x) (Ok y) held kept e o p =
+      λ t. Ok (record {
+        totals = record {
+          iterations = (e t).iterations;
+          weight = (e t).weight;
+          bound = (e t).bound;
+          least = (e t).least;
+          least_total = (e t).least_total;
+        };
+        walked = (e t).kept_or_walked;
+      })
+  same_answer (Ok x) (Err r) held kept e o p =
+      absurd (mixed (said (Ok x)) (number_of r.fault) r.place kept refl e p)
+  same_answer (Err r) (Ok x) held kept e o p =
+      absurd (mixed (said (Ok x)) (number_of r.fault) r.place held refl (sym e) o)
+  same_answer (Err r) (Err q) held kept e o p =
+      ap Err (one_refusal r q (ap (λ (v : Values). v.number) e) (ap (λ (v : Values). v.place) e))
 
-  pub one_walk : (a b : WalkAnswer) (held kept : List ℕ) → WalkOwed form budget lent (said a, held)
+  pub one_walk : (a b : Result Walked Refusal) (held kept : List ℕ) → WalkOwed form budget lent (said a, held)
       → WalkOwed form budget lent (said b, kept) → (a ≡ b) × (held ≡ kept)
   one_walk a b held kept o p =
       let e =

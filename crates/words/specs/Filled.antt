@@ -1,10 +1,11 @@
 -- Loops that fill a word bit by bit, and a list place by place: where the loop stands, its start,
 -- its turn and its end. Rests on Sets.
-use Rattle.std.specs.Prelude.{◌≡◌, refl, ◌⊎◌, Bool, true, false, ◌&&◌, ◌||◌, List, map, ℕ, zero, suc, ◌+◌, ◌-◌, ◌*◌, ◌^◌, ◌≤◌, ◌<◌, eqb, ltb, length, get_or, set}
+use Rattle.std.specs.Prelude.{◌≡◌, refl, ◌⊎◌, Bool, true, false, ◌&&◌, ◌||◌, List, map, ℕ, zero, suc, ◌+◌, ◌*◌, ◌^◌, ◌≤◌, ◌<◌, eqb, ltb, length, get_or, set, replicate}
 use Rattle.std.proofs.Math.Path.{sym, ap}
 use Rattle.std.proofs.Common.{◌∙◌, subst, inl, inr, zero-add, pow-suc, add-one, arith, eqb-true, ltb-true, ltb-false, lt-ltb, le-ltb, Fits, length-set, get_or-set_same, get_or-set_other, ext_get_or}
 use Rattle.std.proofs.Math.Bool.{and-true, and-false, or-false, or_assoc}
 use Rattle.std.proofs.lemmas.Bool.{eqb-false}
+use Rattle.std.proofs.lemmas.List.{length-replicate, get_or-replicate, get_or_past}
 use Rattle.std.specs.Int.{w64}
 use Rattle.words.specs.Tabled.{tabled, rows}
 use Rattle.laws.specs.Terms.{bit, any, range, set_of}
@@ -79,36 +80,48 @@ module _ {A : Type 0} (z : A) (P : ℕ → A → Type 0) (n : ℕ) where
       → Told z Q n n l
   told_as Q l inv f = record { size = inv.size; at = λ b k. f b (get_or l b z) k (inv.at b k) }
 
--- ---- places of arrays: cited where the context is too large to look through
+-- the same of a list that has z from i on
+pub record Filling {A : Type 0} (z : A) (P : ℕ → A → Type 0) (n i : ℕ) (l : List A) : Type 0 where
+  pub told : Told z P n i l
+  pub rest : (b : ℕ) → i ≤ b → get_or l b z ≡ z
 
-pub in_room : {m n i : ℕ} → m ≡ n → i < n → i < m
-in_room size h = omega arith
+module _ {A : Type 0} (z : A) (P : ℕ → A → Type 0) (n : ℕ) where
+  pub filling_none : Filling z P n 0 (replicate n z)
+  filling_none = record {
+    told = told_none z P n (replicate n z) (length-replicate n z);
+    rest = λ b h. split (ltb b n)
+        (λ l. get_or-replicate n b z z (ltb-true b n l))
+        (λ l. get_or_past (replicate n z) b z (omega (arith, ltb-false b n l, length-replicate n z)));
+  }
+
+  pub filling_more : (i : ℕ) (l : List A) (x : A) → i < n → Filling z P n i l → P i x
+      → Filling z P n (i + 1) (set l i x)
+  filling_more i l x h f p = record {
+    told = told_more z P n i l x h f.told p;
+    rest = λ b m. get_or-set_other l i b x z (omega arith) ∙ f.rest b (omega arith);
+  }
+
+  -- the loop is at its end, and z is right at the places that are left
+  pub filling_end : (i : ℕ) (l : List A) → ((b : ℕ) → i ≤ b → b < n → P b z) → Filling z P n i l → Told z P n n l
+  filling_end i l past f = record {
+    size = f.told.size;
+    at = λ b h. split (ltb b i)
+        (λ m. f.told.at b (ltb-true b i m))
+        (λ m. let above = ltb-false b i m in subst (P b) (sym (f.rest b above)) (past b above h));
+  }
+
+-- ---- places of arrays: cited where the context is too large to look through
 
 -- a place's distance in bytes fits a word
 pub fits_8 : {i : ℕ} → i < 256 → Fits w64 (i * 8)
 fits_8 h = omega arith
 
-pub fits_4 : {i : ℕ} → i < 256 → Fits w64 (i * 4)
-fits_4 h = omega arith
-
 pub below_256 : {i : ℕ} → i < 64 → i < 256
 below_256 h = omega arith
 
-pub fits_small : {n : ℕ} → n ≤ 256 → Fits w64 n
-fits_small h = omega arith
-
-pub fits_byte : {n : ℕ} → n < 256 → Fits w64 n
-fits_byte h = omega arith
-
--- the next place, and what is left after it
-pub fits_next : {i : ℕ} → i < 256 → Fits w64 (i + 1)
-fits_next h = omega arith
-
+-- the next place
 pub next_within : {n i : ℕ} → i < n → i + 1 ≤ n
 next_within h = omega arith
-
-pub less_left : (n : ℕ) {i : ℕ} → i < n → n - (i + 1) < n - i
-less_left n h = omega arith
 
 -- ---- a list that is told whole
 

@@ -9,7 +9,7 @@ use Rattle.std.proofs.lemmas.List.{length-replicate, get_or-replicate}
 use Rattle.laws.specs.Terms.{bit}
 use Rattle.laws.specs.Tests.{split, eqb_swap}
 use Rattle.laws.specs.Sets.{bit_none, trailing_lt, trailing_at}
-use Rattle.words.specs.Tabled.{least}
+use Rattle.words.specs.Tabled.{least, LeastOut}
 use Rattle.words.specs.Filled.{Upto, upto_none, upto_more, upto_end}
 
 pub least_some : (x : ℕ) → 0 < x → least x ≡ count_trailing_zeros 64 x
@@ -17,6 +17,17 @@ least_some x some = rw (ne_eqb x 0 (λ e. not_zero some e))
   where
     not_zero : 0 < x → x ≡ 0 → ⊥
     not_zero some e = omega arith
+
+pub least_out : (x k y : ℕ) → 0 < x → x < 2 ^ 64 → k ≡ least x
+    → ((j : ℕ) → bit y j ≡ bit x j && not (eqb j (count_trailing_zeros 64 x))) → LeastOut x k y
+least_out x k y some fits lowest others =
+    let is : k ≡ count_trailing_zeros 64 x = lowest ∙ least_some x some in
+    let small = trailing_lt 64 fits some in record {
+      small = rw is small;
+      least = lowest;
+      there = rw is (trailing_at 64 x small);
+      others = λ j. rw is (others j);
+    }
 
 -- ---- the numbers of a word with a test, taken out of the word one by one
 
@@ -33,29 +44,18 @@ module _ (f : ℕ → Bool) (word : ℕ) where
       none true b = refl
       none false b = refl
 
-  pub sifted_more :
-      (left result left' result' at : ℕ) (t : Bool) → Sifted f word left result → left < 2 ^ 64 → 0 < left
-      → at ≡ least left → t ≡ f at
-      → ((k : ℕ) → bit result' k ≡ bit result k || (t && eqb k at))
-      → ((k : ℕ) → bit left' k ≡ bit left k && not (eqb k (count_trailing_zeros 64 left)))
-      → Sifted f word left' result'
-  sifted_more left result left' result' at t s fits some lowest e new less = record { part = part; out = out }
+  -- where the loop goes over the word's numbers
+  pub sifted_next :
+      (left result left' result' at : ℕ) (t : Bool) → Sifted f word left result → LeastOut left at left' → t ≡ f at
+      → ((k : ℕ) → bit result' k ≡ bit result k || (t && eqb k at)) → Sifted f word left' result'
+  sifted_next left result left' result' at t s o e new = record { part = part; out = out }
     where
-      is : at ≡ count_trailing_zeros 64 left
-      is = lowest ∙ least_some left some
-
-      there : bit left at ≡ true
-      there = subst (λ (k : ℕ). bit left k ≡ true) (sym is) (trailing_at 64 left (trailing_lt 64 fits some))
-
-      less_at : (k : ℕ) → bit left' k ≡ (bit left k && not (eqb k at))
-      less_at k = less k ∙ ap (λ (m : ℕ). bit left k && not (eqb k m)) (sym is)
-
       kept : (a b : Bool) → (a && b) ≡ true → a ≡ true
       kept true b e = refl
       kept false b e = e
 
       part : (k : ℕ) → bit left' k ≡ true → bit word k ≡ true
-      part k q = s.part k (kept (bit left k) (not (eqb k at)) (sym (less_at k) ∙ q))
+      part k q = s.part k (kept (bit left k) (not (eqb k at)) (sym (o.others k) ∙ q))
 
       out : (k : ℕ) → bit result' k ≡ ((bit word k && not (bit left' k)) && f k)
       out k = new k ∙ split (eqb k at) here other
@@ -63,10 +63,10 @@ module _ (f : ℕ → Bool) (word : ℕ) where
           here : eqb k at ≡ true → (bit result k || (t && eqb k at)) ≡ ((bit word k && not (bit left' k)) && f k)
           here q =
               let same = eqb-true k at q in
-              rw (s.out k, less_at k, q, same, there, s.part at there, e) (and-true (f at))
+              rw (s.out k, o.others k, q, same, o.there, s.part at o.there, e) (and-true (f at))
 
           other : eqb k at ≡ false → (bit result k || (t && eqb k at)) ≡ ((bit word k && not (bit left' k)) && f k)
-          other q = rw (less_at k, q, and-false t, or-false (bit result k), and-true (bit left k)) (s.out k)
+          other q = rw (o.others k, q, and-false t, or-false (bit result k), and-true (bit left k)) (s.out k)
 
   pub sifted_end : (left result : ℕ) → Sifted f word left result → left ≡ 0 → (k : ℕ)
       → bit result k ≡ (bit word k && f k)

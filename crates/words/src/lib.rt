@@ -4,22 +4,18 @@
 
 ghost use Rattle.std.specs.Prelude.{◌≡◌, ◌&&◌, ◌||◌, not, ℕ, ◌<◌, eqb};
 ghost use Rattle.std.specs.Int.Count.{count_trailing_zeros};
-ghost use Rattle.laws.specs.Terms.{digit, bit};
-ghost use Rattle.words.specs.Tabled.{least};
+ghost use Rattle.std.specs.Iterator.{at_most};
+ghost use Rattle.laws.specs.Terms.{bit};
+ghost use Rattle.words.specs.Tabled.{least, TakesLeast};
+
+use std::marker::Model;
 
 // Whether k is in x.
 #[tactic(auto, using(crate::proofs::Past::past), unfolding(laws::specs::Terms::bit))]
 pub fn has(x: u64, k: usize) -> bool
     ensures { result ≡ bit x k }
 {
-    if k < 64 { (x >> k) % 2 == 1 } else { false }
-}
-
-// 1 where the test holds, else 0.
-fn digit_of(test: bool) -> u64
-    ensures { result ≡ digit test }
-{
-    if test { 1 } else { 0 }
+    k < 64 && (x >> k) % 2 == 1
 }
 
 // x, with k where the test holds. The test's digit is shifted, and no word is chosen by it: the compiler would choose
@@ -28,7 +24,7 @@ pub fn put(x: u64, k: usize, test: bool) -> u64
     requires { k < 64 }
     ensures { (j : ℕ) → bit result j ≡ bit x j || (test && eqb j k) }
 {
-    x | (digit_of(test) << k)
+    x | (u64::from(test) << k)
 }
 
 // x where the test holds, else nothing.
@@ -71,17 +67,53 @@ pub fn lowest(x: u64) -> usize
     ensures { (result < 64) × (result ≡ least x) }
 {
     if x == 0 {
-        return 0;
+        0
+    } else {
+        x.trailing_zeros() as usize
     }
-    u64::trailing_zeros(x) as usize
 }
 
 // x without its least.
 pub fn rest(x: u64) -> u64
     ensures { ((j : ℕ) → bit result j ≡ bit x j && not (eqb j (count_trailing_zeros 64 x))) × (0 < x → result < x) }
 {
-    if x == 0 {
-        return 0;
+    if x == 0 { 0 } else { x & (x - 1) }
+}
+
+// The numbers in a word, least first: what is left of it.
+#[derive(Clone, Copy)]
+pub struct MemberIter {
+    left: u64,
+}
+
+impl Model for MemberIter {
+    ghost Value = { ℕ };
+
+    ghost view = { λ m. m.left };
+
+    ghost inverse = { λ n. record { left = n } };
+}
+
+impl Iterator for MemberIter {
+    type Item = usize;
+
+    ghost next_gives = { TakesLeast };
+
+    ghost remaining = { at_most };
+
+    fn next(&mut self) -> Option<usize> {
+        if self.left == 0 {
+            return None;
+        }
+        let least = lowest(self.left);
+        self.left = rest(self.left);
+        Some(least)
     }
-    x & (x - 1)
+}
+
+// The numbers in x, least first.
+pub fn members(x: u64) -> MemberIter
+    ensures { result ≡ x }
+{
+    MemberIter { left: x }
 }

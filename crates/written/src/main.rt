@@ -12,46 +12,30 @@
 
 ghost use Rattle.std.specs.Prelude.{◌≡◌, ◌+◌, ◌≤◌, length};
 
-use form::{Block, Body, Counter, Effect, Written};
-
-fn four(a: u8, b: u8, c: u8, d: u8) -> u32 {
-    (a as u32) + 256 * (b as u32) + 65536 * (c as u32) + 16777216 * (d as u32)
-}
+use form::{Block, Body, Counter, Effect, Refusal};
 
 fn number_at(q: &[u8], i: usize) -> u32
     requires { i + 4 ≤ length q.now }
 {
-    four(q[i], q[i + 1], q[i + 2], q[i + 3])
-}
-
-fn wide(low: u32, high: u32) -> usize {
-    (low as usize) + 4294967296 * (high as usize)
+    u32::from_le_bytes([q[i], q[i + 1], q[i + 2], q[i + 3]])
 }
 
 fn wide_at(q: &[u8], i: usize) -> usize
     requires { i + 8 ≤ length q.now }
 {
-    wide(number_at(q, i), number_at(q, i + 4))
+    let low = number_at(q, i) as usize;
+    let high = number_at(q, i + 4) as usize;
+    high << 32 | low
 }
 
 // The signed number that was told with 2,147,483,648 added.
-fn signed(told: u32) -> i32 {
-    if told < 2147483648 {
-        let below = (2147483647 - told) as i32;
-        return -1 - below;
-    }
-    (told - 2147483648) as i32
-}
-
 fn signed_at(q: &[u8], i: usize) -> i32
     requires { i + 4 ≤ length q.now }
 {
-    signed(number_at(q, i))
+    number_at(q, i).wrapping_sub(2147483648).cast_signed()
 }
 
-fn counter_at(q: &[u8]) -> Counter
-    requires { 17 ≤ length q.now }
-{
+fn counter_of(q: &[u8; 2913]) -> Counter {
     Counter {
         initial: signed_at(q, 4),
         step: signed_at(q, 8),
@@ -60,8 +44,8 @@ fn counter_at(q: &[u8]) -> Counter
     }
 }
 
-fn block_at(q: &[u8], at: usize) -> Block
-    requires { at + 21 ≤ length q.now }
+fn block_at(q: &[u8; 2913], at: usize) -> Block
+    requires { at + 21 ≤ 2913 }
 {
     Block {
         cost: number_at(q, at),
@@ -75,8 +59,8 @@ fn block_at(q: &[u8], at: usize) -> Block
     }
 }
 
-fn effect_at(q: &[u8], at: usize) -> Effect
-    requires { at + 6 ≤ length q.now }
+fn effect_at(q: &[u8; 2913], at: usize) -> Effect
+    requires { at + 6 ≤ 2913 }
 {
     Effect {
         variable: q[at + 4],
@@ -85,91 +69,35 @@ fn effect_at(q: &[u8], at: usize) -> Effect
     }
 }
 
-fn blocks_of(q: &[u8]) -> [Block; 64]
-    requires { 2913 ≤ length q.now }
-{
-    let mut blocks = [block_at(q, 33); 64];
-    let mut k = 0;
-    while k < 64 {
-        blocks[k] = block_at(q, 33 + 21 * k);
-        k += 1;
-    }
-    blocks
-}
-
-fn effects_of(q: &[u8]) -> [Effect; 256]
-    requires { 2913 ≤ length q.now }
-{
-    let mut effects = [effect_at(q, 1377); 256];
-    let mut k = 0;
-    while k < 256 {
-        effects[k] = effect_at(q, 1377 + 6 * k);
-        k += 1;
-    }
-    effects
-}
-
-fn body_of(q: &[u8]) -> Body
-    requires { 2913 ≤ length q.now }
-{
-    let counter = counter_at(q);
-    let count = wide_at(q, 17);
-    let total = wide_at(q, 25);
-    let blocks = blocks_of(q);
-    let effects = effects_of(q);
+fn body_of(q: &[u8; 2913]) -> Body {
     Body {
-        counter,
-        count,
-        blocks,
-        total,
-        effects,
+        counter: counter_of(q),
+        count: wide_at(q, 17),
+        blocks: std::array::from_fn(|k| block_at(q, 33 + 21 * k)),
+        total: wide_at(q, 25),
+        effects: std::array::from_fn(|k| effect_at(q, 1377 + 6 * k)),
     }
 }
 
-fn say(n: u64) {
-    let bytes = [
-        (n % 256) as u8,
-        (n / 256 % 256) as u8,
-        (n / 65536 % 256) as u8,
-        (n / 16777216 % 256) as u8,
-        (n / 4294967296 % 256) as u8,
-        (n / 1099511627776 % 256) as u8,
-        (n / 281474976710656 % 256) as u8,
-        (n / 72057594037927936 % 256) as u8,
-    ];
-    io::write_all(1, &bytes);
+// An answer: number, place and bytes written.
+fn say(number: u64, place: u64, bytes: u64) {
+    for n in [number, place, bytes] {
+        io::write_all(1, &n.to_le_bytes());
+    }
 }
 
-fn say_answer(number: u64, place: u64, bytes: u64) {
-    say(number);
-    say(place);
-    say(bytes);
-}
-
-fn say_written(answer: Written) {
+fn say_written(answer: Result<usize, Refusal>) {
     match answer {
-        Written::Bytes(count) => say_answer(0, 0, count as u64),
-        Written::Refused { number, place } => say_answer(number as u64, place as u64, 0),
+        Ok(bytes) => say(0, 0, bytes as u64),
+        Err(Refusal { fault, place }) => say(fault as u64, place as u64, 0),
     }
-}
-
-fn at_most_4096(n: u32) -> usize
-    ensures { result ≤ 4096 }
-{
-    if n < 4096 { n as usize } else { 4096 }
-}
-
-fn lent() -> [u8; 4096]
-    ensures { 4096 ≡ length result }
-{
-    [165; 4096]
 }
 
 fn ask_one() {
     let mut q = [0u8; 2913];
     io::read_full(0, &mut q);
-    let room = at_most_4096(number_at(&q, 0));
-    let mut out = lent();
+    let room = (number_at(&q, 0) as usize).min(4096);
+    let mut out = [165u8; 4096];
     say_written(writer::write(body_of(&q), &mut out[..room]));
     io::write_all(1, &out);
 }
@@ -177,10 +105,7 @@ fn ask_one() {
 fn main() {
     let mut head = [0u8; 4];
     io::read_full(0, &mut head);
-    let many = number_at(&head, 0);
-    let mut k = 0;
-    while k < many {
+    for _ in 0..u32::from_le_bytes(head) {
         ask_one();
-        k += 1;
     }
 }

@@ -1,43 +1,39 @@
 -- `layout::counts_fit` meets its contract.
-use mathlib.Core.Path.{◌≡◌, sym, ◌∙◌}
-use Prim.Native.Nat.{suc, ◌+◌}
-use native.Mathlib.Numerals.{add-one}
-use native.Mathlib.Omega.{arith}
+use Rattle.std.proofs.Common.{◌≡◌, sym, ap, ◌∙◌, add-one, arith, [], drop, take}
+use Rattle.std.proofs.lemmas.List.{drop_all}
 use borrow.Author.Tests.{ne_eqb}
-use lib.ListN.{get_or, take, drop}
-use lib.Seq.{get_or-take}
-use Rattle.form.specs.Form.{sum_own, zero_block}
-use Rattle.form.specs.Laying.{within_counts, sum_step, sum_end, lacks}
+use Rattle.form.specs.Form.{sum_own}
+use Rattle.form.specs.Laying.{over_blocks, over_effects, within_counts, sum_step, lacks}
 use Rattle.layout.proofs.counts_fit.Goals as goal
-use Rattle.layout.proofs.counts_fit.Goals.{In-loop-k}
+use Rattle.layout.proofs.counts_fit.Goals.{then-body-gt-MOST_BLOCKS-via-then-body-gt-MOST_BLOCKS}
+use Rattle.layout.proofs.counts_fit.Goals.{then-body-gt-MOST_BLOCKS-via-else-body-gt-MOST_BLOCKS+then-body-gt-MOST_EFFECTS}
 
--- a turn's block in the sum of those to come
-turn :
-    (c : In-loop-k) → let body = c.args.body in
-    let k = c.loop-k.k in
-    sum_own (drop k (take body.count body.blocks))
-    ≡ (get_or body.blocks k zero_block).effects + sum_own (drop (suc k) (take body.count body.blocks))
-turn c =
-    let body = c.args.body in
-    rw (← get_or-take body.count body.blocks c.loop-k.k zero_block c.loop-k-test.true)
-    (sum_step (take body.count body.blocks) c.loop-k.k)
+pub returns-then-body-gt-MOST_BLOCKS : goal.returns-then-body-gt-MOST_BLOCKS
+returns-then-body-gt-MOST_BLOCKS c =
+    elim c.then-body-gt-MOST_BLOCKS.branch [
+      | then-body-gt-MOST_BLOCKS-via-then-body-gt-MOST_BLOCKS w ↦ over_blocks _ (omega arith)
+      | then-body-gt-MOST_BLOCKS-via-else-body-gt-MOST_BLOCKS+then-body-gt-MOST_EFFECTS w ↦ over_effects _ (omega arith)
+    ]
 
-pub returns-then-left-own : goal.returns-then-left-own
-returns-then-left-own c =
-    let body = c.args.body in
-    let step = turn (goal.at.returns-then-left-own c).In-loop-k in
+pub returns-then-left-block : goal.returns-then-left-block
+returns-then-left-block c =
+    let body = c.args.body.now in
+    let step = sum_step (take body.count body.blocks) c.loop-block.block-index in
     sym
     (within_counts _ (omega arith) (omega arith)
     ∙ ne_eqb (sum_own (take body.count body.blocks)) body.total (λ e. omega (arith, step)))
 
-pub loop-k-preserved : goal.loop-k-preserved
-loop-k-preserved c = rw (add-one c.loop-k.k) (omega (arith, turn (goal.at.loop-k-preserved c).In-loop-k))
+pub loop-block-preserved : goal.loop-block-preserved
+loop-block-preserved c =
+    let body = c.args.body.now in
+    let step = sum_step (take body.count body.blocks) c.loop-block.block-index in
+    rw (add-one c.loop-block.block-index) (omega (arith, step))
 
 pub returns : goal.returns
+unfolding sum_own
 returns c =
-    let body = c.args.body in
-    let all : c.loop-k.k ≡ body.count = omega arith in
-    let none : sum_own (drop c.loop-k.k (take body.count body.blocks)) ≡ 0 =
-    sum_end body.count c.loop-k.k all body.blocks in
-    lacks (sum_own (take body.count body.blocks)) c.loop-k.left body.total (omega arith)
+    let body = c.args.body.now in
+    let none : drop c.loop-block.block-index (take body.count body.blocks) ≡ [] =
+    drop_all c.loop-block.block-index (take body.count body.blocks) (omega arith) in
+    lacks (sum_own (take body.count body.blocks)) c.loop-block.left body.total (omega (arith, ap sum_own none))
     ∙ sym (within_counts _ (omega arith) (omega arith))

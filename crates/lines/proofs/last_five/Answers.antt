@@ -1,6 +1,6 @@
 -- `lines::last_five` meets its contract: five lines, one behind the other. Assumes nothing.
-use native.Mathlib.Omega.{arith}
-use Rattle.lent.specs.Adding.{then}
+use Rattle.std.proofs.Common.{arith}
+use Rattle.lent.specs.Filled.{then}
 use Rattle.lines.proofs.last_five.Goals as goal
 
 pub returns : goal.returns
@@ -10,14 +10,7 @@ returns c =
       walk = last.walk;
       held = last.held;
       owed = last.owed;
-      adds = then c.route-a.ensures.0 (then c.line-b.ensures.0 (then c.route-c.ensures.0
-          (then c.line-d.ensures.0 last.adds)));
-      few = omega (
-        arith,
-        c.route-a.ensures.1,
-        c.line-b.ensures.1,
-        c.route-c.ensures.1,
-        c.line-d.ensures.1,
-        last.few,
-      );
+      grows = then c.route.ensures.grows (then c.line.ensures.grows (then c.route-2.ensures.grows
+          (then c.line-2.ensures.grows last.grows)));
+      few = omega arith;
     }

@@ -1,14 +1,22 @@
--- `lines::walked_line` meets its contract, case by case of the walk's answer (Parts). Assumes nothing.
-use native.Mathlib.Omega.{arith}
-use Rattle.lines.specs.Parts.{walked_shown}
+-- `lines::walked_line` meets its contract, case by case of the walk's answer. Assumes nothing.
+use Rattle.std.proofs.Common.{arith}
+use Rattle.std.specs.Prelude.{Ok, Err}
 use Rattle.lines.proofs.walked_line.Goals as goal
 
-pub returns-in-Walked : goal.returns-in-Walked
-returns-in-Walked c =
-    walked_shown _ _ _ _ _ _ _ _ c.walk.ensures c.in-Walked.is c.line.ensures.0
-    (omega (arith, c.line.ensures.1))
+pub returns-in-Ok : goal.returns-in-Ok
+returns-in-Ok c = record {
+  walk = Ok c.in-Ok.found;
+  held = c.walk.new.route;
+  owed = c.in-Ok.ensures;
+  grows = c.line.ensures.grows;
+  few = omega arith;
+}
 
-pub returns-in-Refused : goal.returns-in-Refused
-returns-in-Refused c =
-    walked_shown _ _ _ _ _ _ _ _ c.walk.ensures c.in-Refused.is c.put.ensures
-    (omega (arith, c.put.ensures.end))
+pub returns-in-Err : goal.returns-in-Err
+returns-in-Err c = record {
+  walk = Err c.in-Err.field-0;
+  held = c.walk.new.route;
+  owed = c.in-Err.ensures;
+  grows = c.add.ensures;
+  few = omega arith;
+}

@@ -3,6 +3,4 @@ use Rattle.path_sets.specs.Finding.{sets_are}
 use Rattle.path_sets.proofs.sets_of.Goals as goal
 
 pub returns : goal.returns
-returns c =
-    λ body sound is. sets_are body sound _ _ is _ c.leads_of-leads.ensures
-    (c.listed_by-jump.ensures, c.listed_by-fall.ensures)
+returns c = λ body sound is. sets_are body sound _ _ is _ c.leads_of-leads.ensures c.sets_of.ensures

@@ -1,27 +1,31 @@
 -- `reader::own_effects` meets its contract.
-use mathlib.Core.Path.{ap, sym, ◌∙◌}
-use Prim.Native.Nat.{◌+◌}
-use native.Mathlib.Omega.{arith}
-use Rattle.form.specs.declared.Kind.{Kind}
-use Rattle.form.specs.Form.{own_effects, records_from}
+use Rattle.std.proofs.Common.{sym, ap, ◌∙◌, arith, true≢false, eq-eqb}
+use Rattle.form.specs.Said.{Kind}
 use Rattle.form.specs.Records.{own_more, own_none, own_end}
+use Rattle.form.specs.Kinds.{no_effect}
 use Rattle.reader.proofs.own_effects.Goals as goal
 
-pub returns-then-kind-ne-EFFECT : goal.returns-then-kind-ne-EFFECT
-returns-then-kind-ne-EFFECT c =
-    let s = c.args.s.now in
-    let role = ap (λ (k : Kind). k.role) c.kind_at-kind.ensures.0 in
-    omega (arith, own_none s c.loop-at.at c.loop-at-test.true (λ e. c.if-kind-ne-EFFECT.true (role ∙ e)))
+pub returns-in_default : goal.returns-in_default
+returns-in_default c =
+    let loop = c.loop-record.invariant in
+    let step = c.in-Some.ensures.steps in
+    let kind = rw (step.form ∙ loop.form, step.at) at c.kind.ensures in
+    let other = no_effect _ _ kind c.in_default.not-Effect in
+    omega (arith, own_none _ _ (rw loop.form at step.inside) (λ e. true≢false (sym (eq-eqb _ _ e) ∙ other)))
 
-pub loop-at-preserved : goal.loop-at-preserved
-loop-at-preserved c =
-    let s = c.args.s.now in
-    let role = ap (λ (k : Kind). k.role) c.kind_at-kind.ensures.0 in
-    let more = own_more s c.loop-at.at c.loop-at-test.true (sym role ∙ c.if-kind-ne-EFFECT.false) in
-    let counted =
-    ap (λ (k : Kind). own_effects s (records_from s (c.loop-at.at + k.length))) c.kind_at-kind.ensures.0 in
-    omega (arith, more, counted, c.kind_at-kind.ensures.1)
+pub loop-record-preserved : goal.loop-record-preserved
+loop-record-preserved c =
+    let loop = c.loop-record.invariant in
+    let step = c.in-Some.ensures.steps in
+    let row = sym (rw (step.form ∙ loop.form, step.at) at c.in-Effect.ensures) in
+    let more = own_more _ _ (rw loop.form at step.inside) (ap (λ (k : Kind). k.role) row) in
+    record {
+      form = step.same ∙ loop.form;
+      all = rw (step.next, loop.form) (omega (arith, more));
+      few = omega (arith, step.on);
+    }
 
 pub returns : goal.returns
 returns c =
-    omega (arith, own_end c.args.s.now c.loop-at.at c.loop-at-test.false)
+    let loop = c.loop-record.invariant in
+    omega (arith, own_end _ _ (rw loop.form at c.in-None.ensures.steps.0))

@@ -14,7 +14,7 @@ use Rattle.std.specs.Int.{w32}
 use Rattle.form.specs.declared.Counter.{Counter}
 use Rattle.form.specs.declared.Block.{Block}
 use Rattle.form.specs.declared.Effect.{Effect}
-use Rattle.form.specs.declared.Kind.{Kind}
+use Rattle.form.specs.Said.{Kind}
 use Rattle.form.specs.Form.{when, byte_at, number2, number4, signed4, unknown, counter_role, block_role, effect_role}
 use Rattle.form.specs.Form.{kind_of, length_at, kind_number, kind_at, counter_at, block_at, effect_at, counter_bytes}
 use Rattle.form.specs.Form.{block_bytes, effect_bytes, zero_block, zero_effect}

@@ -6,11 +6,10 @@ use Rattle.std.proofs.Math.Path.{ap}
 use Rattle.std.proofs.Common.{sym, subst, ◌∙◌, arith, length-take-le}
 use Prim.Native.Nat.{ℕ, zero, suc, ◌≤◌}
 use Rattle.std.proofs.Math.ListN.{length, length-drop}
-use Rattle.form.specs.declared.Kind.{Kind}
+use Rattle.form.specs.Said.{Kind, Accepted}
 use Rattle.form.specs.declared.Block.{Block}
 use Rattle.form.specs.declared.Effect.{Effect}
 use Rattle.form.specs.declared.Body.{Body}
-use Rattle.form.specs.declared.Verdict.TheVariants.{Accepted}
 use Rattle.form.specs.Form.{counter_role, block_role, effect_role, kind_of, kind_at, records_from, gather, own_effects}
 use Rattle.form.specs.Form.{block_at, effect_at, blocks_in, effects_in, zero_block, zero_effect, body_with, body_of}
 use Rattle.form.specs.Form.{up_to_counts, counter_bytes, block_bytes, effect_bytes, lay_blocks, lay, counts_fit, judge}

@@ -6,8 +6,7 @@ use Rattle.std.proofs.Math.Path.{ap}
 use Rattle.std.proofs.Common.{sym, subst, ◌∙◌, arith}
 use Rattle.std.proofs.Math.Seq.{drop-length}
 use Rattle.form.specs.declared.Block.{Block}
-use Rattle.form.specs.declared.Verdict.TheVariants.{Accepted}
-use Rattle.form.specs.declared.Written.TheVariants.{Bytes}
+use Rattle.form.specs.Said.{Accepted, Bytes}
 use Rattle.form.specs.Form.{records_from, gather, own_effects, counter_at, block_at, effect_at, blocks_in, effects_in, body_of}
 use Rattle.form.specs.Form.{counter_bytes, lay_blocks, lay, counts_fit, judge}
 use Rattle.form.specs.Answer.{written, held_after}

@@ -1,45 +1,47 @@
 -- `verdict::judge` meets its contract.
-use mathlib.Core.Path.{refl, ap, sym, ◌∙◌}
-use Prim.Native.Nat.{ℕ, ◌+◌, ◌≤◌}
-use native.Mathlib.Omega.{arith}
-use Rattle.form.specs.declared.Verdict.TheVariants.{Refused}
+use Rattle.std.proofs.Common.{sym, ap, ◌∙◌, arith}
+use Rattle.std.proofs.lemmas.Result.{err_from_is_err_and}
+use Rattle.form.specs.Said.{verdict_of}
 use Rattle.form.specs.Writing.{judged_as}
-use Rattle.form.specs.Form.{judge}
 use Rattle.form.specs.Records.{rest_leave, rest_pass, records_end, end_none, end_some}
+use Rattle.form.specs.Kinds.{block_told, effect_told, counted, at_most_one}
+use Rattle.verdict.proofs.Steps.{faulted, faultless}
 use Rattle.verdict.proofs.judge.Goals as goal
 
-pub loop-at-init : goal.loop-at-init
-unfolding judge
-loop-at-init c = (refl, omega arith)
+pub returns-in_err-judge_record : goal.returns-in_err-judge_record
+returns-in_err-judge_record c =
+    let loop = c.loop-record.invariant in
+    let step = c.in-Some.ensures.steps in
+    let p = err_from_is_err_and c.from_residual.result c.from_residual.ensures.1 in
+    let left = faulted _ _ _ (rw (step.form ∙ loop.form, step.at) at c.in_err-judge_record.ensures) in
+    judged_as _ _ (rw (p.1, p.2) (left.1 ∙ rest_leave _ _ (rw loop.form at step.inside) _ _ _ left.0 loop.left))
 
-pub returns-then-fault-ne0 : goal.returns-then-fault-ne0
-returns-then-fault-ne0 c =
-    let fault = c.record_fault-fault.ensures in
-    let left =
-    rest_leave _ _ c.loop-at-test.true _ _ _ (λ z. c.if-fault-ne0.true (fault ∙ z))
-    c.loop-at.invariant.0 in
-    judged_as _ _ (ap (λ (n : ℕ). Refused n c.loop-at.at) fault ∙ left)
+pub loop-record-preserved : goal.loop-record-preserved
+loop-record-preserved c =
+    let loop = c.loop-record.invariant in
+    let step = c.in-Some.ensures.steps in
+    let form = step.form ∙ loop.form in
+    let blocks = rw (form, step.at) at (c.from.ensures ∙ counted _ _ (c.eq.ensures ∙ block_told _ _ c.kind.ensures)) in
+    let effects = rw (form, step.at) at (c.from-in-loop-record.ensures
+    ∙ counted _ _ (c.eq-in-loop-record.ensures ∙ effect_told _ _ c.kind-in-loop-record.ensures)) in
+    let none = faultless _ _ (rw (form, step.at) at c.in_ok-judge_record.ensures) in
+    let inside = rw loop.form at step.inside in
+    record {
+      form = step.same ∙ loop.form;
+      left = rw (step.next, loop.form, blocks, effects) (rest_pass _ _ inside _ _ _ none loop.left);
+      blocks = omega (arith, step.on, at_most_one);
+      fewer = omega (arith, inside, at_most_one);
+      effects = omega (arith, step.on, at_most_one);
+    }
 
-pub loop-at-preserved : goal.loop-at-preserved
-loop-at-preserved c =
-    let passed =
-    rest_pass _ _ c.loop-at-test.true _ _ _ (sym c.record_fault-fault.ensures ∙ c.if-fault-ne0.false)
-    c.loop-at.invariant.0 in
-    let loop = c.loop-at in
-    let few : loop.e + c.one_if-e.result ≤ loop.at + c.kind_at-kind.result.length =
-    omega (arith, loop.invariant.1, c.kind_at-kind.ensures.1, c.one_if-e.ensures.1) in (
-      rw (c.one_if-e.ensures.0, c.one_if-b.ensures.0, c.kind_at-kind.ensures.0) passed,
-      (omega (arith, c.kind_at-kind.ensures.1, c.one_if-b.ensures.1), (omega arith, few)),
-    )
-
-pub returns-then-b-eq0 : goal.returns-then-b-eq0
-returns-then-b-eq0 c =
-    let whole = rw (records_end _ _ c.loop-at-test.false) at c.loop-at.invariant.0 in
-    judged_as _ _ (sym (end_none _ _ c.loop-at.e c.if-b-eq0.true) ∙ whole)
+pub returns-then-passed-eq0 : goal.returns-then-passed-eq0
+returns-then-passed-eq0 c =
+    let loop = c.loop-record.invariant in
+    let whole = rw (records_end _ _ (rw loop.form at c.in-None.ensures.steps.0)) at loop.left in
+    judged_as _ _ (ap verdict_of c.refused.ensures ∙ sym (end_none _ _ _ c.if-passed-eq0.true) ∙ whole)
 
 pub returns : goal.returns
 returns c =
-    let loop = c.loop-at in
-    let whole = rw (records_end _ _ c.loop-at-test.false) at loop.invariant.0 in
-    judged_as _ _ (c.judge_ends.ensures
-    ∙ (sym (end_some _ _ loop.e c.if-b-eq0.false loop.invariant.1.1.0) ∙ whole))
+    let loop = c.loop-record.invariant in
+    let whole = rw (records_end _ _ (rw loop.form at c.in-None.ensures.steps.0)) at loop.left in
+    judged_as _ _ (c.judge_ends.ensures ∙ (sym (end_some _ _ _ c.if-passed-eq0.false loop.fewer) ∙ whole))

@@ -1,24 +1,35 @@
 -- `verdict::judge_ends` meets its contract.
-use mathlib.Core.Path.{sym, ◌∙◌}
-use native.Mathlib.Omega.{arith}
+use Rattle.std.proofs.Common.{◌∙◌, arith}
+use Rattle.std.proofs.lemmas.Result.{err_from_is_err_and}
 use Rattle.form.specs.Form.{judge_ends}
 use Rattle.form.specs.Records.{ends_leave, ends_pass, records_end}
+use Rattle.form.specs.Kinds.{block_told, counted, at_most_one}
+use Rattle.verdict.proofs.Steps.{faulted, faultless}
 use Rattle.verdict.proofs.judge_ends.Goals as goal
 
-pub returns-then-fault-ne0 : goal.returns-then-fault-ne0
-returns-then-fault-ne0 c =
-    let fault = c.end_fault-fault.ensures in
-    rw fault
-    (ends_leave _ _ c.loop-at-test.true _ _ _ (λ z. c.if-fault-ne0.true (fault ∙ z))
-    c.loop-at.invariant.0)
+pub returns-in_err-judge_end : goal.returns-in_err-judge_end
+returns-in_err-judge_end c =
+    let loop = c.loop-record.invariant in
+    let step = c.in-Some.ensures.steps in
+    let p = err_from_is_err_and c.from_residual.result c.from_residual.ensures.1 in
+    let left = faulted _ _ _ (rw (step.form ∙ loop.form, step.at) at c.in_err-judge_end.ensures) in
+    rw (p.1, p.2) (left.1 ∙ ends_leave _ _ (rw loop.form at step.inside) _ _ _ left.0 loop.left)
 
-pub loop-at-preserved : goal.loop-at-preserved
-loop-at-preserved c =
-    let passed =
-    ends_pass _ _ c.loop-at-test.true _ _ _ (sym c.end_fault-fault.ensures ∙ c.if-fault-ne0.false)
-    c.loop-at.invariant.0 in
-    (rw (c.one_if-k.ensures.0, c.kind_at-kind.ensures.0) passed, omega arith)
+pub loop-record-preserved : goal.loop-record-preserved
+loop-record-preserved c =
+    let loop = c.loop-record.invariant in
+    let step = c.in-Some.ensures.steps in
+    let form = step.form ∙ loop.form in
+    let more = rw (form, step.at) at (c.from-k.ensures ∙ counted _ _ (c.eq.ensures ∙ block_told _ _ c.kind.ensures)) in
+    let none = faultless _ _ (rw (form, step.at) at c.in_ok-judge_end.ensures) in
+    record {
+      form = step.same ∙ loop.form;
+      left = rw (step.next, loop.form, more) (ends_pass _ _ (rw loop.form at step.inside) _ _ _ none loop.left);
+      few = omega (arith, step.on, at_most_one);
+    }
 
 pub returns : goal.returns
 unfolding judge_ends
-returns c = rw (records_end _ _ c.loop-at-test.false) at c.loop-at.invariant.0
+returns c =
+    let loop = c.loop-record.invariant in
+    rw (records_end _ _ (rw loop.form at c.in-None.ensures.steps.0)) at loop.left

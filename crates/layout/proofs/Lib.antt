@@ -1,0 +1,2 @@
+-- The bytes of a signed field.
+pub mod Signed

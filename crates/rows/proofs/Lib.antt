@@ -1,0 +1,2 @@
+-- Lemmas of rows' proofs: exits and their numbers.
+mod Ways

@@ -1,0 +1,2 @@
+-- What the proofs of judging share.
+pub mod Steps

@@ -1,2 +1,0 @@
--- What the writer answers where the reader refuses the bytes laid out.
-pub mod Away
