@@ -4,7 +4,7 @@
 use counter::Relation;
 use form::{Block, Body, Counter, Effect};
 
-// A relation's sign.
+// A relation's sign. (d) No Display: Relation is the counter's, which prints nothing.
 pub(crate) fn sign(relation: Relation) -> &'static str {
     match relation {
         Relation::Equal => "=",
@@ -40,7 +40,7 @@ pub(crate) fn counted(initial: i32, step: i32, relation: Relation, limit: i32) -
     }
 }
 
-// A body with one block or one effect more.
+// A body with one block or one effect more. (d) Numbers one by one, as a case tells them.
 pub(crate) trait Build {
     fn with_block(self, block: Block) -> Body;
 

@@ -16,11 +16,13 @@ pub(crate) fn say(rt: &impl Print, text: &str) -> io::Result<()> {
 
 // The conflict list's bytes as numbers, its entries of five apart.
 fn entries(rt: &impl Print, bytes: &[u8]) -> io::Result<()> {
-    for (i, byte) in bytes.iter().enumerate() {
-        if i > 0 && i % 5 == 0 {
+    for (i, entry) in bytes.chunks(5).enumerate() {
+        if i > 0 {
             print!(rt; ";")?;
         }
-        print!(rt; " {byte}")?;
+        for byte in entry {
+            print!(rt; " {byte}")?;
+        }
     }
     println!(rt; "")
 }
@@ -136,7 +138,8 @@ pub(crate) fn walk(rt: &impl Print, form: &[u8], budget: u32) -> io::Result<()> 
     walked(rt, budget, answer, &bytes)
 }
 
-// The body's form, laid out in the lent bytes; how many bytes it has, or none where the writer refuses.
+// The body's form, laid out in the lent bytes; how many bytes it has. (d) 0 where the writer refuses:
+// the empty form is then read, and refused, like any other.
 pub(crate) fn form(rt: &impl Print, body: Body, out: &mut [u8]) -> io::Result<usize>
     ensures { IfOk result (λ n. IsPrefixLen n out.new) }
 {
@@ -163,7 +166,7 @@ pub(crate) fn written(rt: &impl Print, name: &str, body: Body) -> io::Result<()>
     written_in(rt, name, body, &mut [0; 3665])
 }
 
-// A case of the writer, lent 172 bytes.
+// A case of the writer, lent 172 bytes. (d) Each of the two is one line that names its room.
 pub(crate) fn written_short(rt: &impl Print, name: &str, body: Body) -> io::Result<()> {
     written_in(rt, name, body, &mut [0; 172])
 }

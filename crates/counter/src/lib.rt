@@ -75,7 +75,8 @@ impl Relation {
     }
 }
 
-// Whether the value meets the relation with this number to the constant: nothing meets a number above 5.
+// Whether the value meets the relation with this number to the constant: nothing meets a number above 5. (a) A number:
+// a `Relation` would ask more of callers.
 pub fn meets(relation: u8, value: i64, constant: i64) -> bool
     ensures { result ≡ meets relation value constant }
 {
@@ -85,7 +86,8 @@ pub fn meets(relation: u8, value: i64, constant: i64) -> bool
     }
 }
 
-// How often b goes into a, where a is not negative and b is positive.
+// How often b goes into a, where a is not negative and b is positive. (d) One expression, with a contract, for three
+// places.
 fn quotient(a: i64, b: i64) -> u64
     requires { (dn a ≡ 0) × (0 < up b) }
     ensures { result ≡ up a / up b }

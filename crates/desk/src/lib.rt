@@ -1,6 +1,6 @@
 // The calls of the training tool, which is written in C: the static library. Thin: each call hands its bytes to the
 // layers below and returns their numbers by value (crate numbers), so that a refusal writes to no lent memory. A part
-// of no bytes may have any pointer.
+// of no bytes may have any pointer. (a) Numbers throughout: the C interface.
 #![tactic(auto)]
 
 ghost use Rattle.std.specs.Prelude.{◌≡◌, length};

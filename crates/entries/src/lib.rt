@@ -1,4 +1,5 @@
-// The entries of the sweep's rows, in the order of their keys, and one put in where its key belongs.
+// The entries of the sweep's rows, in the order of their keys, and one put in where its key belongs. (a) A row and how
+// many it holds stand apart: `Grown`, on which the sweep's promise rests, speaks of both, and a row is C's entries.
 #![tactic(auto)]
 
 ghost use Rattle.std.specs.Prelude.{◌≡◌, ◌≤◌, length, IfOk, IfErr};

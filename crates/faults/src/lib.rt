@@ -1,9 +1,11 @@
 // What can be wrong with a decoded record by itself: refusals 15, 16, 18 and 19, of a counter, a block or an effect,
-// whatever bytes it was read from. What each function means is in form's Form.
+// whatever bytes it was read from. What each function means is in form's Form. (a) Endings, relations and hows are
+// form's numbers: whether they are in range is what is judged here.
 #![tactic(auto)]
 
 ghost use Rattle.std.specs.Prelude.{◌≡◌, ◌+◌, ◌<◌, ◌^◌};
-ghost use Rattle.form.specs.Form.{stray, some_target, bad_counter, bad_block, bad_effect, low_target, bad_end, far_target};
+ghost use Rattle.form.specs.Form.{stray, some_target, bad_counter, bad_block, bad_effect};
+ghost use Rattle.form.specs.Form.{low_target, bad_end, far_target};
 
 use form::{Block, Counter, Effect};
 

@@ -64,7 +64,7 @@ pub enum Kind {
     Effect,
 }
 
-// Relations, endings and an effect's `how` are numbers here: the writer takes bodies whose numbers are out of range
+// (a) Relations, endings and an effect's `how` are numbers here: the writer takes bodies whose numbers are out of range
 // too, and refuses them with 15.
 
 // The counter: what a kind 1 record holds.

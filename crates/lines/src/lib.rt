@@ -21,7 +21,7 @@ fn entries(form: &[u8]) -> u64
     (bytes / 5) as u64
 }
 
-// How many blocks the form's body has.
+// How many blocks the form's body has. (a) 0 for what is no form: the clause bounds the number for any bytes.
 pub fn blocks(form: &[u8]) -> usize
     ensures { (judge form.now ≡ Accepted → result ≡ (body_of form.now).count) × (result ≤ 64) }
 {
@@ -55,7 +55,8 @@ fn walked_line(out: &mut Filled, form: &[u8])
     }
 }
 
-// The last five lines, over the heaviest route's bytes and the lightest's.
+// The last five lines, over the heaviest route's bytes and the lightest's. (d) An argument for each line, as LastAdds
+// has them.
 pub fn last_five(
     out: &mut Filled,
     form: &[u8],

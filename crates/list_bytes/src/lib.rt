@@ -21,7 +21,8 @@ enum Kind {
     Edge = 2,
 }
 
-// The second of a pair: an edge, by its block and the way that it is left, and the variable of its test.
+// The second of a pair: an edge, by its block and the way that it is left, and the variable of its test. (d) The block
+// is a usize, below 256 in the clauses: it numbers rows too, and as a byte it would be cast at each.
 #[derive(Clone, Copy)]
 struct Second {
     block: usize,
@@ -63,7 +64,8 @@ impl Second {
         requires { (self.block < 256) × HasRoom out.old (assignments self assigned) }
         ensures { Grows out.old out.new (assignments self assigned) }
     {
-        // By number and `has`, as in add_edges: both loops have the turns of turn_bytes (specs/Laying).
+        // (d) By number and `has`, as in add_edges: both loops have the turns of turn_bytes, by which the list's bytes
+        // are defined (specs/Laying); `members` would need a second definition beside it.
         for first in 0..64 {
             if words::has(assigned, first) {
                 out.add(&self.after_assignment(first));

@@ -1,6 +1,6 @@
 // What a body's blocks, effects and edges say by themselves, as sets of edges in words: the part of its conflicts
-// that looks at no path. The meaning is in sets' Local and in form's Conflict. Endings, relations and kinds of
-// effects are numbers here, since form::Block and form::Effect hold the form's own.
+// that looks at no path. The meaning is in sets' Local and in form's Conflict. (a) Endings, relations and kinds
+// of effects are numbers here: `local_of` promises for any body, with numbers out of range too.
 #![tactic(auto)]
 
 ghost use Rattle.std.specs.Prelude.{◌≡◌, ◌≤◌, [], ◌∷◌, length, take};
@@ -9,7 +9,7 @@ ghost use Rattle.sets.specs.Local.{local_of};
 ghost use Rattle.local_sets.specs.Parts.{WaysOf, conflict, asked, TestsOf, ConflictsIn, Follows, HitsFrom};
 
 // What there is by each of the two ways of leaving a block.
-// (a) sets' Targets and Edges stay beside it: its definitions (edge_rows, SetsFrom) name these types.
+// (a) sets' Targets and Edges stay beside it: its definitions (edge_rows, local_of) name these types.
 #[derive(Clone, Copy, Default)]
 struct ByWay<T> {
     jump: T,
@@ -60,7 +60,8 @@ struct EffectRows {
     denied: sets::Edges,
 }
 
-// For each block, the edges that its edge by jump, and that by fall, conflicts with.
+// For each block, the edges that its edge by jump, and that by fall, conflicts with: (a) the two rows that sets::Local
+// has, by their names there.
 #[derive(Clone, Copy)]
 struct EdgeRows {
     jumping: sets::Edges,
@@ -76,7 +77,7 @@ fn blocks_of(body: &form::Body) -> &[form::Block]
     &blocks[..body.count.min(blocks.len())]
 }
 
-// Where a block's ways lead; 64 where it has no such way, as in sets::Targets.
+// Where a block's ways lead; (a) 64 where it has no such way, as in sets::Targets.
 fn ways_of(block: form::Block) -> ByWay<usize>
     ensures { WaysOf block result }
 {
@@ -92,6 +93,7 @@ fn ways_of(block: form::Block) -> ByWay<usize>
 fn targets_of(body: &form::Body) -> sets::Targets
     ensures { result ≡ (local_of body.now).targets }
 {
+    // (d) Zeros and 64s by hand, here and below: Default is derived for arrays of at most 32.
     let mut targets = sets::Targets {
         jump: [64; 64],
         fall: [64; 64],
@@ -114,7 +116,8 @@ fn variables_of(body: &form::Body) -> [u8; 64]
     variables
 }
 
-// The relation that holds exactly where this one fails.
+// The relation that holds exactly where this one fails. (d) counter's mirrored relation is another table: one function
+// of six numbers would be no plainer.
 fn opposite(relation: u8) -> u8
     ensures { result ≡ opposite relation }
 {

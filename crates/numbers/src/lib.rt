@@ -1,5 +1,6 @@
-// What the calls for C answer with: the structs of numbers, and each made of the answer of the layer below. 0 as number
-// is no refusal. What each number says is in specs/Answer.antt.
+// What the calls for C answer with: the structs of numbers, and each made of the answer of the layer below. What each
+// number says is in specs/Answer.antt. (a) 0 as number is no refusal, as C reads it, and each struct has its own number
+// and place: C reads it flat and in order.
 #![tactic(auto)]
 
 ghost use Rattle.std.specs.Prelude.{◌≡◌};

@@ -45,7 +45,8 @@ fn apart(a: i32, b: i32) -> bool
     a < b && a < b - 1
 }
 
-// Whether no whole number has both relations, each to its constant.
+// Whether no whole number has both relations, each to its constant. (a) Relations are numbers here: this and C's call
+// promise for numbers above 5 too.
 pub fn conflicting(relation1: u8, constant1: i32, relation2: u8, constant2: i32) -> bool
     ensures { result ≡ conflicting relation1 constant1 relation2 constant2 }
 {

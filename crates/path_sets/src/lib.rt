@@ -22,14 +22,16 @@ struct Leads {
     ahead: [u64; 64],
 }
 
-// A way by which a block is left: with its number, an edge's outcome in the conflict list.
+// A way by which a block is left: with its number, an edge's outcome in the conflict list. (d) An edge has no end as
+// plan_words::Exit has: `by` would need a case that nobody asks for.
 #[derive(Clone, Copy, Debug, PartialEq, Eq)]
 pub enum Outcome {
     Jump = 1,
     Fall = 2,
 }
 
-// For each block, those of its set that are edges by one way.
+// For each block, those of its set that are edges by one way. (d) The clauses below say it of three sets: three words of
+// one way, which a struct of borrowed rows would say no plainer.
 fn by(way: Outcome, edges: &Edges) -> &[u64; 64]
     ensures { result.now ≡ by way edges.now }
 {
@@ -39,7 +41,7 @@ fn by(way: Outcome, edges: &Edges) -> &[u64; 64]
     }
 }
 
-// The word at place k; past the last, none.
+// The word at place k; past the last, none. (d) One expression of std, with a contract, for both ways.
 fn word_at(words: &[u64; 64], k: usize) -> u64
     ensures { result ≡ get_or words.now k 0 }
 {

@@ -13,7 +13,7 @@ use form::{Body, Refusal};
 
 pub mod route;
 
-// The plan of a body that the reader accepted, in lent words. The sets are taken apart once, and not for each block. A
+// The plan of a body that the reader accepted, in lent words. The sets are found once, and not for each block. A
 // block's ending is a number, 3 a test: (a) form::Block has it so.
 pub fn plan_of(body: &Body, plan: &mut [u64; 1024])
     requires { Sound body.now }

@@ -4,7 +4,8 @@ ghost use Rattle.plan.specs.RouteWords.{byte_of, bytes_of};
 
 use entries::Way;
 
-// A route: the blocks left by jump or go, those left by fall.
+// A route: the blocks left by jump or go, those left by fall. (d) search's Left has the same two sets: it grows by
+// exits, this one is written as bytes, and one struct would leave either without its methods.
 #[derive(Clone, Copy)]
 pub struct Route {
     pub jumped: u64,
@@ -24,7 +25,7 @@ impl From<Way> for Route {
 }
 
 impl Route {
-    // The byte of block b, of so many, as document 01 numbers them.
+    // The byte of block b, of so many: (a) as document 01 numbers them.
     fn byte(self, count: usize, b: usize) -> u8
         requires { b < count }
         ensures { result ≡ byte_of count self.jumped self.fallen b }

@@ -2,6 +2,8 @@
 // crate plan. It is 1,024 words and no array of structs: (a) theory's Planned and PlanOf, on which plan_of's clause and
 // the promises of both ways rest, speak of a list of words, and each word has its name here alone. So, too, `test`
 // answers 1 or 0, and `target` 64 where there is none: (a) theory's words of the plan.
+// (d) Plan and block stand apart, with `b < 64` in the clauses: theory's words take both, and a struct of them would be
+// made for one word and taken apart again.
 #![tactic(auto)]
 
 ghost use Rattle.std.specs.Prelude.{◌≡◌, ◌<◌};

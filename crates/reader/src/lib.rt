@@ -9,8 +9,8 @@ ghost use Rattle.form.specs.Answer.{reading_of, ReadAs};
 use form::{Block, Body, Effect, Kind, MOST_BLOCKS, MOST_EFFECTS, Refusal};
 use records::{Record, Records};
 
-// How many effects stand first of these records, before the next block or the end. (A loop, since a chain of
-// `take_while` and `count` was tried, and the check leaves all of its result to prove.)
+// How many effects stand first of these records, before the next block or the end. (c) A loop, since a chain of
+// `take_while` and `count` was tried, and the check leaves all of its result to prove.
 fn own_effects(after: Records) -> usize
     ensures { result ≡ own_effects after.entry.form.now (records_from after.entry.form.now after.entry.at) }
 {

@@ -10,7 +10,7 @@ ghost use Rattle.form.specs.Form.{counter_at, block_at, effect_at};
 
 use form::{Block, Counter, Effect, Kind};
 
-// The kind of a number, by the table of kinds.
+// The kind of a number, by the table of kinds. (d) A function of this crate, as the offsets are, and no From in form.
 #[tactic(auto, unfolding(form::specs::Form::kind_of))]
 fn kind_of(number: u16) -> Kind
     ensures { row_of result ≡ kind_of number }
@@ -33,7 +33,8 @@ pub struct Record<'a> {
 impl<'a> Record<'a> {
     ghost use Rattle.form.specs.Records.{next};
 
-    // Its byte at i, 0 past the form's end. (A sum cut at the last usize is past the end too.)
+    // Its byte at i, 0 past the form's end. A sum cut at the last usize is past the end too. (d) One expression of std, with
+    // a contract, for all fields.
     fn byte(&self, i: usize) -> u8
         ensures { result ≡ byte_at self.now.form.now (self.now.at + i) }
     {
@@ -43,7 +44,7 @@ impl<'a> Record<'a> {
             .unwrap_or(0)
     }
 
-    // Its two bytes from i on as a number.
+    // Its two bytes from i on as a number. (d) This and the next two ask i < 28 each: all calls are literals.
     fn short(&self, i: usize) -> u16
         requires { i < 28 }
         ensures { result ≡ number2 self.now.form.now (self.now.at + i) }
@@ -97,7 +98,7 @@ impl<'a> Record<'a> {
         }
     }
 
-    // The records after it. (It alone asks that the place be no last one: it gives the next one as a usize.)
+    // The records after it. It asks that 17 bytes more still fit a usize, which holds the next one's place.
     pub fn after(&self) -> Records<'a>
         requires { self.now.at + 17 < 2 ^ 64 }
         ensures form { result.form.now ≡ self.now.form.now }
@@ -148,7 +149,8 @@ impl<'a> Record<'a> {
     }
 }
 
-// The records of a form from a place on, one after the other: each starts where the one before it ends.
+// The records of a form from a place on, one after the other: each starts where the one before it ends. (d) A type of
+// its own beside Record: one would be the iterator and its own item.
 #[derive(Clone, Copy)]
 pub struct Records<'a> {
     pub form: &'a [u8],

@@ -122,7 +122,7 @@ impl Step {
 }
 
 // The tails of b into its row, by each way those of the target's row, until the 65th set appears; how many are held
-// then, 65 with the 65th: a count and no Option, see entries::insert.
+// then, 65 with the 65th: a count and no Option, see entries::insert. (d) The plan and two rows of tails are told apart.
 pub fn build(
     plan: &[u64; 1024],
     b: usize,
@@ -150,8 +150,8 @@ pub fn build(
     held
 }
 
-// The row begins empty, but for the last block's, which has its own entry: no edge, its cost and no block that is left.
-// How many are held.
+// The row begins empty, but for the last block's, which has its own entry: no edge, its cost and no block that is left
+// ((d) each zero says one of these). How many are held.
 pub fn begin(plan: &[u64; 1024], b: usize, count: usize, row: &mut [Entry; 64]) -> usize
     requires { b < 64 }
     ensures { Holds (begun_with plan.now count b) row.new result }

@@ -1,11 +1,11 @@
 // The sets of edges and blocks that stand for a body's conflicts, as rows of words: the structs, and in specs/ what
 // they are of a body. No function: the crate local_sets finds what blocks say by themselves (Local), the crate
-// path_sets what paths join (Found, and its Sets). They stay rows, and no array of a struct for each block, since the
-// definitions local_of, sets_of and found_of (specs/) name these fields.
+// path_sets what paths join (Found, and its Sets). (a) They stay rows, and no array of a struct for each block, and
+// Sets repeats fields of Local, since the definitions local_of, sets_of and found_of (specs/) name these fields.
 #![tactic(auto)]
 
-// Where each block's jump and fall lead; 64 where it has no such way, and no Option, since local_of
-// (specs/) says so.
+// Where each block's jump and fall lead; (a) 64 where it has no such way, and no Option, since local_of (specs/) says
+// so.
 #[derive(Clone, Copy)]
 pub struct Targets {
     pub jump: [usize; 64],

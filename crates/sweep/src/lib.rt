@@ -18,6 +18,7 @@ fn sweep_rows(plan: &[u64; 1024], count: usize, table: &mut [Entry]) -> Result<R
     requires { PlanOf plan.now count × (64 * count ≤ length table.old) }
     ensures { Rowed plan.now count table.old table.new result }
 {
+    // (d) By hand: Default is derived for arrays of at most 32.
     let mut rows = Rows {
         lengths: [0; 64],
         kept: 0,

@@ -40,7 +40,7 @@ pub fn check_room(count: usize, bytes: usize, entries: usize) -> Result<(), Refu
 
 // The row of block b from the entries of its targets' rows, in the place of whatever was made before; how many entries
 // it has, or 65 where it is crowded: a count and no Option, see entries::insert. Plan and count stand apart and are no
-// `&Prepared`: (c) tried; with it the fact that the plan's words fit has only names that may change.
+// `&Prepared`: (c) tried; with it the fact that the plan's words fit is named in the goals only by names that change.
 pub fn make(
     plan: &[u64; 1024],
     count: usize,
@@ -115,7 +115,8 @@ pub struct Routed {
     pub kept: u64,
 }
 
-// The answer from all rows and row 0's entry, and both routes' bytes. With no entry in row 0 there is no route.
+// The answer from all rows and row 0's entry, and both routes' bytes. With no entry in row 0 there is no route. (d) Row
+// 0's length, at hand, says whether there is an entry; an Option of it would say so twice.
 pub fn answer(
     ready: &Prepared,
     rows: &Rows,

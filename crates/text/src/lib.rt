@@ -7,8 +7,8 @@ ghost use Rattle.text.specs.Text.{decimal, line as line_text, refusal_line, lett
 
 use lent::Filled;
 
-// A number in decimal digits. (`write!` promises what stands there where it succeeds, and not that it succeeds where
-// there is room; `io::decimal` always does.)
+// A number in decimal digits. (d) `write!` promises what stands there where it succeeds, and not that it succeeds where
+// there is room; `io::decimal` always does. Room is a clause of each text: another number each.
 fn number(out: &mut Filled, n: u64)
     requires { out.old.end + 20 ≤ length out.old.bytes.now }
     ensures grows { Grows out.old out.new (decimal n) }

@@ -26,7 +26,7 @@ fn refused(fault: Fault, place: usize) -> Result<(), Refusal>
     Err(Refusal { fault, place })
 }
 
-// 15 of the record, whatever it is.
+// 15 of the record, whatever it is. A block's number of effects plays no part in judging: it is told as 0.
 #[tactic(auto, unfolding(form::specs::Form::bad_field))]
 fn bad_field(here: &Record) -> bool
     ensures { result ≡ bad_field here.now.form.now here.now.at }

@@ -7,7 +7,8 @@ ghost use Rattle.walk.specs.Answer.{said, WalkOwed};
 use form::{Fault, Refusal};
 use plan::{Totals, route};
 
-// The full walk's answer: what both ways answer, and the number of conflict-free beginnings.
+// The full walk's answer: what both ways answer, and the number of conflict-free beginnings. (d) The sweep's is a struct
+// of its own: only the totals are shared, the last number means another thing.
 #[derive(Clone, Copy, Debug, PartialEq, Eq)]
 pub struct Walked {
     pub totals: Totals,

@@ -1,5 +1,6 @@
 // Sets of small numbers as words of 64 bits, bit k for the number k: the operations that the crates above compute
-// with. Each says what every bit of its result is (`bit` of the laws), those past 63 included.
+// with. Each says what every bit of its result is (`bit` of the laws), those past 63 included. (a) A set is a u64: C's
+// entries are made of such words.
 #![tactic(auto)]
 
 ghost use Rattle.std.specs.Prelude.{◌≡◌, ◌&&◌, ◌||◌, not, ℕ, ◌<◌, eqb};
@@ -62,7 +63,7 @@ pub fn renewed(a: u64, b: u64, c: u64) -> u64
     either(less(a, b), c)
 }
 
-// The least number in x; 0 where there is none.
+// The least number in x; (a) 0 where there is none, as its promise says (`least`).
 pub fn lowest(x: u64) -> usize
     ensures { (result < 64) × (result ≡ least x) }
 {

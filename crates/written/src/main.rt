@@ -8,6 +8,7 @@
 //  1377  256 effects, 6 bytes each: constant, 4 bytes; variable, how, 1 each
 // A signed number is told with 2,147,483,648 added. The answer to each has 24 + 4,096 bytes: number, place and bytes
 // written, 8 bytes each, and the lent bytes, each of which was 165 before, followed by as many more that were not lent.
+// (a) Number 0 is no refusal: compare/ reads it so.
 #![tactic(auto)]
 
 ghost use Rattle.std.specs.Prelude.{◌≡◌, ◌+◌, ◌≤◌, length};

@@ -1,0 +1,2 @@
+-- What the writer answers where the reader refuses the bytes laid out.
+pub mod Away
