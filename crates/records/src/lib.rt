@@ -33,15 +33,13 @@ pub struct Record<'a> {
 impl<'a> Record<'a> {
     ghost use Rattle.form.specs.Records.{next};
 
-    // Its byte at i, 0 past the form's end. A sum cut at the last usize is past the end too. (d) One expression of std, with
-    // a contract, for all fields.
+    // Its byte at i, 0 past the form's end. (b) What is left is compared, and not a sum cut at the last usize, as an
+    // expression of std has it: with that the verdict took 1.4 times as long. One function for all fields.
     fn byte(&self, i: usize) -> u8
         ensures { result ≡ byte_at self.now.form.now (self.now.at + i) }
     {
-        self.form
-            .get(self.at.saturating_add(i))
-            .copied()
-            .unwrap_or(0)
+        let left = self.form.len().saturating_sub(self.at);
+        if i < left { self.form[self.at + i] } else { 0 }
     }
 
     // Its two bytes from i on as a number. (d) This and the next two ask i < 28 each: all calls are literals.
