@@ -4,11 +4,13 @@
 #![tactic(auto)]
 
 mod bodies;
+mod output;
 mod show;
 
 use bodies::{Build, Condition};
 use counter::Relation;
 use form::Body;
+use output::Output;
 use std::io;
 
 // A counter from 0 by 1 while it is below 10.
@@ -424,19 +426,23 @@ fn refused_room(rt: &impl Print) -> io::Result<()> {
     )
 }
 
-fn main(rt: HostRuntime) -> io::Result<()> {
-    counts(&rt)?;
-    trainers_cases(&rt)?;
-    tables(&rt)?;
-    not_runnable(&rt)?;
-    forgotten_effects(&rt)?;
-    reals(&rt)?;
-    tails(&rt)?;
-    cheapest(&rt)?;
-    wraps(&rt)?;
-    refused_counts(&rt)?;
-    refused_fields(&rt)?;
-    refused_ends(&rt)?;
-    refused_in_order(&rt)?;
-    refused_room(&rt)
+fn all(rt: &impl Print) -> io::Result<()> {
+    counts(rt)?;
+    trainers_cases(rt)?;
+    tables(rt)?;
+    not_runnable(rt)?;
+    forgotten_effects(rt)?;
+    reals(rt)?;
+    tails(rt)?;
+    cheapest(rt)?;
+    wraps(rt)?;
+    refused_counts(rt)?;
+    refused_fields(rt)?;
+    refused_ends(rt)?;
+    refused_in_order(rt)?;
+    refused_room(rt)
+}
+
+fn main() {
+    let _printed = all(&Output);
 }
