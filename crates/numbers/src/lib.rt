@@ -14,6 +14,10 @@ use form::Refusal;
 use sweep_steps::Routed;
 use walk::Walked;
 
+mod numbered;
+
+pub use numbered::{Told, of_counted, of_listed, of_sweep, of_verdict, of_walk, of_written};
+
 // A refusal's number and place; number 0: none.
 #[repr(C)]
 #[derive(Clone, Copy, Default)]
