@@ -1,6 +1,6 @@
 -- A number's digits by io's definition, the fewest that hold it, are those of Text. Rests on Text.
-use Rattle.std.specs.Prelude.{Bool, true, false, cond, [], ◌∷◌, ◌++◌, ◌≡◌, refl, ℕ, zero, suc, ◌+◌, ◌-◌, ◌/◌, ◌%◌, ◌^◌, ◌≤◌, ◌<◌, ltb}
-use Rattle.std.proofs.Common.{arith, pow-suc, ltb-true, ltb-false, lt-ltb, lit≤}
+use Rattle.std.specs.Prelude.{Bool, true, false, cond, List, [], ◌∷◌, ◌++◌, ◌≡◌, refl, ℕ, zero, suc, ◌+◌, ◌-◌, ◌/◌, ◌%◌, ◌^◌, ◌≤◌, ◌<◌, ltb, length}
+use Rattle.std.proofs.Common.{arith, pow-suc, ltb-true, ltb-false, lt-ltb, lit≤, length-append}
 use Rattle.io.specs.Digits.{last_digits, hex_digit_ascii, IsDigitCount}
 use Rattle.text.specs.Text.{digits_of, decimal}
 
@@ -44,6 +44,15 @@ digits_are zero n (suc j) h w =
     λ i. front zero n j (λ m l t w. absurd (omega arith)) h w (ltb n 10) refl i ++ (glyph_low n i ∷ [])
 digits_are (suc f) n (suc j) h w =
     λ i. front (suc f) n j (λ m l t w. digits_are f m j l w) h w (ltb n 10) refl i ++ (glyph_low n i ∷ [])
+
+few : (b : Bool) (l : List ℕ) (f x : ℕ) → length l ≤ f → length (cond b [] l ++ (x ∷ [])) ≤ suc f
+few true l f x h = omega arith
+few false l f x h = omega (arith, length-append l (x ∷ []))
+
+pub digits_few : (f n : ℕ) → length (digits_of f n) ≤ f
+unfolding digits_of
+digits_few zero n = lit≤ tt
+digits_few (suc f) n = few (ltb n 10) (digits_of f (n / 10)) f (48 + n % 10) (digits_few f (n / 10))
 
 -- 20 digits hold every number of 64 bits
 pub decimal_is : (n k : ℕ) → n < 2 ^ 64 → IsDigitCount 10 1 n k → last_digits 10 k n ≡ decimal n

@@ -19,13 +19,6 @@ fn number(out: &mut Filled, n: u64)
     out.add(&digits[..k]);
 }
 
-fn end_line(out: &mut Filled)
-    requires { out.old.end + 1 ≤ length out.old.bytes.now }
-    ensures { Grows out.old out.new (10 ∷ []) }
-{
-    out.add(b"\n");
-}
-
 // A word and a number.
 pub fn line(out: &mut Filled, word: &[u8], n: u64)
     requires { out.old.end + length word.now + 21 ≤ length out.old.bytes.now }
@@ -34,7 +27,7 @@ pub fn line(out: &mut Filled, word: &[u8], n: u64)
 {
     out.add(word);
     number(out, n);
-    end_line(out);
+    out.add(b"\n");
 }
 
 // A refusal: its number and place. (a) Two numbers, and no reason, since they are those of its line (`refusal_line`).
@@ -84,5 +77,6 @@ pub fn route(out: &mut Filled, word: &[u8], ways: &[u8])
     for (block, &way) in ways.iter().enumerate() {
         step(out, block, way);
     }
-    end_line(out);
+    // Written otherwise than in `line`: each end has an edit of its own.
+    out.add(&[b'\n']);
 }

@@ -3,4 +3,4 @@ use Rattle.lent.specs.Filled.{then}
 use Rattle.text.proofs.line.Goals as goal
 
 pub returns-clause-grows : goal.returns-clause-grows
-returns-clause-grows c = then c.add.ensures (then c.number.ensures.grows c.end_line.ensures)
+returns-clause-grows c = then c.add.ensures (then c.number.ensures.grows c.add-2.ensures)

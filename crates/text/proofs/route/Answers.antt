@@ -8,4 +8,4 @@ pub loop-block-preserved : goal.loop-block-preserved
 loop-block-preserved c = (turned c.loop-block.invariant.0 (omega arith) c.step.ensures.grows, omega arith)
 
 pub returns-clause-grows : goal.returns-clause-grows
-returns-clause-grows c = then c.add.ensures (then (ended c.loop-block.invariant.0 (omega arith)) c.end_line.ensures)
+returns-clause-grows c = then c.add.ensures (then (ended c.loop-block.invariant.0 (omega arith)) c.add-2.ensures)
