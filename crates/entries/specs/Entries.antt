@@ -1,8 +1,8 @@
 -- Rows of entries: what is in them, and what they hold after an insertion, which is the theory's. Rests on Structs, on
 -- theory's SweepWords and on the laws' Rows.
-use Rattle.std.specs.Prelude.{◌≡◌, Bool, true, false, List, [], ◌∷◌, ◌++◌, length, set}
+use Rattle.std.specs.Prelude.{◌≡◌, Bool, true, false, cond, List, [], ◌∷◌, ◌++◌, ltb, length, set}
 use Rattle.std.proofs.Math.Path.{refl, sym, ap}
-use Rattle.std.proofs.Common.{subst, ◌∙◌, inl, inr, zero-add, length-append}
+use Rattle.std.proofs.Common.{subst, ◌∙◌, inl, inr, zero-add, add_assoc, length-append, ltb-true, ltb-false}
 use Prim.Native.Nat.{ℕ, zero, suc, ◌+◌, ◌-◌, ◌≤◌, ◌<◌}
 use Rattle.std.proofs.Math.Nat.{suc-add, add-zero, add-suc}
 use native.Mathlib.Omega.{arith}
@@ -10,12 +10,20 @@ use Rattle.std.proofs.Math.ListN.{get_or}
 use Rattle.std.proofs.Math.Seq.{get_or-set_same, get_or-set_other}
 use Rattle.std.specs.List.{CopiedTo, SameBelow, SameFrom}
 use Rattle.laws.specs.Terms.{Mem, Choice, heaviest, lightest, preferred, chosen}
+use Rattle.laws.specs.Tests.{split}
 use Rattle.laws.specs.Rows.{keep_better, insert_keeping, insert_past, insert_before, insert_at}
 use Rattle.theory.specs.Row.{Key, key_before}
 use Rattle.theory.specs.Answer.{key_order}
 use Rattle.theory.specs.SweepWords.{Words, better_words}
 use Rattle.entries.specs.declared.Entry.{Entry}
 use Rattle.entries.specs.Structs.{Both, tuple_of, no_entry}
+
+-- what a test that a function made has picked
+pub picked : {A : Type 0} (y z : A) {r b : Bool} → r ≡ b → r ≡ true → y ≡ cond b y z
+picked y z e t = rw (sym e ∙ t)
+
+pub passed_by : {A : Type 0} (y z : A) {r b : Bool} → r ≡ b → r ≡ false → z ≡ cond b y z
+passed_by y z e t = rw (sym e ∙ t)
 
 -- entry i of a row
 abbrev pub entry_at : List Entry → ℕ → Key × Both
@@ -53,6 +61,36 @@ module _ (l m : List Entry) where
   -- the n entries from entry i of l on are those from entry j of m on
   abbrev pub Alike : ℕ → ℕ → ℕ → Type 0
   Alike n i j = (k : ℕ) → k < n → get_or l (i + k) no_entry ≡ get_or m (j + k) no_entry
+
+  -- a part of them
+  alike_part : (n i j from o : ℕ) → from + o ≤ n → Alike n i j → Alike o (i + from) (j + from)
+  alike_part n i j from o h a k b =
+      ap (λ x. get_or l x no_entry) (add_assoc i from k)
+      ∙ a (from + k) (omega arith)
+      ∙ ap (λ x. get_or m x no_entry) (sym (add_assoc j from k))
+
+  -- n entries, and then o entries
+  alike_join : (n o i j : ℕ) → Alike n i j → Alike o (i + n) (j + n) → Alike (n + o) i j
+  alike_join n o i j a b k h = split (ltb k n) (λ q. a k (ltb-true k n q))
+      (λ q. let past = ltb-false k n q in
+      ap (λ x. get_or l x no_entry) (later i k past)
+      ∙ b (k - n) (omega arith)
+      ∙ ap (λ x. get_or m x no_entry) (sym (later j k past)))
+    where
+      later : (i k : ℕ) → n ≤ k → i + k ≡ i + n + (k - n)
+      later i k h = omega arith
+
+  first_alike : (n i j : ℕ) → 0 < n → Alike n i j → get_or l i no_entry ≡ get_or m j no_entry
+  first_alike n i j h a =
+      ap (λ x. get_or l x no_entry) (sym (add-zero i)) ∙ a 0 h ∙ ap (λ x. get_or m x no_entry) (add-zero j)
+
+  first_entry : (i j : ℕ) → get_or l i no_entry ≡ get_or m j no_entry → Alike 1 i j
+  first_entry i j e zero h =
+      ap (λ x. get_or l x no_entry) (add-zero i) ∙ e ∙ ap (λ x. get_or m x no_entry) (sym (add-zero j))
+  first_entry i j e (suc k) h = absurd (never k h)
+    where
+      never : (k : ℕ) → suc k < 1 → ⊥
+      never k h = omega arith
 
   pub entries_alike : (n i j : ℕ) → Alike n i j → entries_from l i n ≡ entries_from m j n
   unfolding entries_from

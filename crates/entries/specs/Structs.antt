@@ -19,12 +19,23 @@ key_of k = (k.jumps, k.falls)
 abbrev pub words_in : Way → Words
 words_in w = (w.weight, (w.jumped, w.fallen))
 
+abbrev pub way_of : Words → Way
+way_of v = record { weight = v.0; jumped = v.1.0; fallen = v.1.1 }
+
 -- the words of a way of each choice: of the heaviest, of the lightest
 abbrev pub Both : Type 0
 Both = Words × Words
 
 abbrev pub tuple_of : Entry → Key × Both
 tuple_of e = ((e.jumps, e.falls), (words_in e.heaviest, words_in e.lightest))
+
+abbrev pub struct_of : Key × Both → Entry
+struct_of e = record {
+  jumps = e.0.0;
+  falls = e.0.1;
+  heaviest = way_of e.1.0;
+  lightest = way_of e.1.1;
+}
 
 -- a zero entry
 abbrev pub no_way : Way

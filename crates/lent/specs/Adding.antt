@@ -1,7 +1,7 @@
 -- Numbers put into a list from a place on: the one word for it, for text and records in lent bytes, for a list of
 -- entries, for a route's bytes and for a plan's words. Rests on the kit's `sets`.
 use Rattle.std.specs.Prelude.{List, [], ◌∷◌, ◌++◌, ◌≡◌, refl, ℕ, zero, suc, ◌+◌, ◌≤◌, ◌<◌, length, take, drop, get_or, set}
-use Rattle.std.proofs.Common.{ap, sym, subst, ◌∙◌, zero-add, add-zero, arith, length-set, length-append, append_assoc, drop-drop, take_at, length-take-le, get_or-set_same, get_or-set_other}
+use Rattle.std.proofs.Common.{ap, sym, subst, ◌∙◌, zero-add, add-zero, add-one, arith, length-set, length-append, append_assoc, drop-drop, take_at, take-suc, length-take-le, get_or-set_same, get_or-set_other}
 use Rattle.std.proofs.lemmas.List.Edits.{sets, sets-eq}
 use Rattle.std.proofs.Math.Seq.{length-sets}
 
@@ -29,6 +29,9 @@ then {o} {p} {q} {a} {b} {at} x y = record {
 pub nothing : (o : List ℕ) (at : ℕ) → Adds o at o at []
 nothing o at = record { end = omega arith; holds = refl }
 
+pub one : (o : List ℕ) (at x : ℕ) → Adds o at (set o at x) (at + 1) (x ∷ [])
+one o at x = record { end = refl; holds = refl }
+
 -- a part of the list written over, as `copy_from_slice` does it
 pub written : (o l bytes : List ℕ) (at k : ℕ) → l ≡ bytes → k ≡ length bytes → at + length bytes ≤ length o
     → Adds o at (take at o ++ (l ++ drop k (drop at o))) (at + length bytes) bytes
@@ -43,6 +46,17 @@ written o l bytes at k e n h = record {
 -- the same bytes, told otherwise
 pub told : {o p a b : List ℕ} {at r : ℕ} → a ≡ b → Adds o at p r a → Adds o at p r b
 told {o} {p} {at = at} {r = r} e x = subst (Adds o at p r) e x
+
+-- a list copied one by one: the first j, and the next
+pub copied : {o p : List ℕ} {v : ℕ} (s : List ℕ) (at j : ℕ) → Adds o at p (at + j) (take j s)
+    → j < length s → v ≡ get_or s j 0 → Adds o at (set p (at + j) v) (at + (j + 1)) (take (j + 1) s)
+copied {o} {p} {v} s at j x h e = record {
+  end = ap (λ (n : ℕ). at + n) (sym (length-take-le (j + 1) s (omega arith)));
+  holds = (then x (one p (at + j) v)).holds ∙ ap (sets o at) next;
+}
+  where
+    next : take j s ++ (v ∷ []) ≡ take (j + 1) s
+    next = (λ i. take j s ++ (e i ∷ [])) ∙ sym (take-suc s j 0 h) ∙ ap (λ (n : ℕ). take n s) (sym (add-one j))
 
 -- ---- what stands then
 

@@ -1,7 +1,7 @@
 -- The lines as the functions leave them in the lent bytes, and the body that is read. Rests on Lines, lent's Filled,
 -- listing's and walk's Answer and roundtrip's Sound.
 use Rattle.std.specs.Prelude.{Result, Ok, Err, MatchResult, Bool, true, false, List, ◌++◌, ◌≡◌, refl, ℕ, ◌+◌, ◌*◌, ◌≤◌, ltb, length}
-use Rattle.std.proofs.Common.{ap, sym, ◌∙◌, arith}
+use Rattle.std.proofs.Common.{ap, sym, subst, ◌∙◌, arith}
 use Rattle.form.specs.declared.Body.{Body}
 use Rattle.form.specs.declared.Refusal.{Refusal}
 use Rattle.form.specs.Said.{Reading, Verdict, Accepted}
@@ -78,3 +78,15 @@ read_blocks form n (Ok body) e m =
 read_blocks form n (Err refusal) e m =
     let refused = ap (λ (x : Reading). x.verdict) e in
     (λ b. cc, omega (arith, m))
+
+-- the walk's line, of an answer told by its case
+pub walked_shown : (form held : List ℕ) (before after : Filled) (answer shown : Result Walked Refusal)
+    → WalkOwed form budget no_routes (said answer, held) → answer ≡ shown → Grows before after (walked_line shown)
+    → after.end ≤ before.end + 28 → WalkedAdds form before after
+walked_shown form held before after answer shown owed e grows few = record {
+  walk = answer;
+  held = held;
+  owed = owed;
+  grows = subst (λ (x : Result Walked Refusal). Grows before after (walked_line x)) (sym e) grows;
+  few = few;
+}

@@ -1,4 +1,5 @@
--- The loop that finds clean paths, from the last block down: where it stands, and its turn. Rests on Parts.
+-- The loop that finds clean paths, from the last block down: where it stands, its start, its turn and its end. Rests
+-- on Parts.
 use Rattle.std.specs.Prelude.{◌≡◌, ◌⊎◌, Bool, not, ◌&&◌, ◌||◌, List, ℕ, ◌+◌, ◌≤◌, ◌<◌, eqb, length, get_or, set}
 use Rattle.std.proofs.Common.{sym, ap, ◌∙◌, inl, inr, arith, eqb-true, length-set, get_or-set_same, get_or-set_other}
 use Rattle.std.proofs.Math.Bool.{and_comm, or_comm}
@@ -6,9 +7,11 @@ use Rattle.std.proofs.lemmas.Bool.{eqb-false}
 use Rattle.laws.specs.Terms.{bit}
 use Rattle.laws.specs.Tests.{split, eqb_swap}
 use Rattle.laws.specs.Sets.{bit_none, below_or_not}
+use Rattle.words.specs.Filled.{Told}
 use Rattle.lower_laws.specs.Blocks.{within, beyond}
 use Rattle.sets.specs.Local.{Above}
-use Rattle.path_sets.specs.Parts.{Ways, ByPaths, led, ahead}
+use Rattle.path_sets.specs.declared.Leads.{Leads}
+use Rattle.path_sets.specs.Parts.{Ways, ByPaths, led, ahead, LeadsOf}
 
 -- a list that tells what it should at the places from i on
 pub record ToldFrom (Q : ℕ → ℕ → Type 0) (i : ℕ) (l : List ℕ) : Type 0 where
@@ -16,6 +19,12 @@ pub record ToldFrom (Q : ℕ → ℕ → Type 0) (i : ℕ) (l : List ℕ) : Type
   pub at : (b : ℕ) → i ≤ b → b < 64 → Q b (get_or l b 0)
 
 module _ (Q : ℕ → ℕ → Type 0) where
+  from_none : (l : List ℕ) → length l ≡ 64 → ToldFrom Q 64 l
+  from_none l e = record { size = e; at = λ b h k. absurd (no b h k) }
+    where
+      no : (b : ℕ) → 64 ≤ b → b < 64 → ⊥
+      no b h k = omega arith
+
   from_more : (k i : ℕ) (l : List ℕ) (x : ℕ) → i < 64 → k ≡ i + 1 → ToldFrom Q k l → Q i x → ToldFrom Q i (set l i x)
   from_more k i l x h next inv q = record { size = length-set l i x ∙ inv.size; at = at }
     where
@@ -26,6 +35,9 @@ module _ (Q : ℕ → ℕ → Type 0) where
       at b m n = split (eqb b i)
           (λ e. let s = eqb-true b i e in rw (s, get_or-set_same l i x 0 room) q)
           (λ e. let d = eqb-false b i e in rw (get_or-set_other l i b x 0 d) (inv.at b (omega arith) n))
+
+  from_end : (i : ℕ) (l : List ℕ) → i ≡ 0 → ToldFrom Q i l → Told 0 Q 64 64 l
+  from_end i l none inv = record { size = inv.size; at = λ b k. inv.at b (omega arith) k }
 
 module _ (jump fall touched : List ℕ) where
   abbrev Tells : ((ℕ → Bool) → (b s : ℕ) → Bool) → ℕ → ℕ → Type 0
@@ -41,6 +53,22 @@ module _ (jump fall touched : List ℕ) where
     pub jumps_from : ToldFrom (Tells (led jump)) b jumps
     pub falls_from : ToldFrom (Tells (led fall)) b falls
     pub aheads_from : ToldFrom (Tells (ahead jump fall)) b aheads
+
+  pub leading_none : (none : List ℕ) → length none ≡ 64 → Leading 64 none none none none
+  leading_none none size = record {
+    clean_from = from_none (Tells here) none size;
+    jumps_from = from_none (Tells (led jump)) none size;
+    falls_from = from_none (Tells (led fall)) none size;
+    aheads_from = from_none (Tells (ahead jump fall)) none size;
+  }
+
+  pub leading_end : (i : ℕ) (l : Leads) (clean : List ℕ) → i ≡ 0 → Leading i clean l.jump l.fall l.ahead
+      → LeadsOf jump fall touched l
+  leading_end i l clean none r = record {
+    jumps = from_end (Tells (led jump)) i l.jump none r.jumps_from;
+    falls = from_end (Tells (led fall)) i l.fall none r.falls_from;
+    aheads = from_end (Tells (ahead jump fall)) i l.ahead none r.aheads_from;
+  }
 
   module _ (ways : Ways jump fall) (i b : ℕ) (clean jumps falls aheads : List ℕ) (inside : b < 64)
       (next : i ≡ b + 1) (r : Leading i clean jumps falls aheads) where

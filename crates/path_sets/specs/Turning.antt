@@ -1,7 +1,7 @@
 -- Rows of words turned, so that the word of s has j where the word of j had s: the loop over the numbers of one word
--- (`Putting`) and the loop over the words (`Turned`); for each where it stands, its start and its end, and of the first
--- its turn. Rests on Parts and on words' Filled and Sorted.
-use Rattle.std.specs.Prelude.{◌≡◌, refl, Bool, true, false, ◌&&◌, ◌||◌, List, ℕ, ◌^◌, ◌≤◌, ◌<◌, eqb, length, get_or, set, replicate}
+-- (`Putting`) and the loop over the words (`Turned`); for each where it stands, its start, its turn and its end. Rests
+-- on Parts and on words' Filled and Sorted.
+use Rattle.std.specs.Prelude.{◌≡◌, refl, Bool, true, false, ◌&&◌, ◌||◌, List, ℕ, ◌+◌, ◌^◌, ◌≤◌, ◌<◌, eqb, length, get_or, set, replicate}
 use Rattle.std.proofs.Common.{sym, ap, subst, ◌∙◌, arith, eqb-true, length-set, get_or-set_same, get_or-set_other}
 use Rattle.std.proofs.Math.Bool.{and-true, or-false}
 use Rattle.std.proofs.lemmas.Bool.{eqb-false}
@@ -12,7 +12,7 @@ use Rattle.laws.specs.Tests.{split}
 use Rattle.laws.specs.Sets.{bit_none, bit_with}
 use Rattle.lower_laws.specs.Blocks.{beyond}
 use Rattle.words.specs.Tabled.{LeastOut}
-use Rattle.words.specs.Filled.{Told, Upto, upto_none, upto_end}
+use Rattle.words.specs.Filled.{Told, Upto, upto_none, upto_more, upto_end}
 use Rattle.words.specs.Sorted.{Sifted, sifted_none, sifted_next, sifted_end}
 use Rattle.path_sets.specs.Parts.{PutAt, BothAt}
 
@@ -89,6 +89,13 @@ module _ (one two : List ℕ) where
   turned_none = record {
     size = length-replicate {A = ℕ} 64 0;
     at = λ s h. subst (Upto (common s) 0) (sym (get_or-replicate 64 s 0 0 h)) (upto_none (common s));
+  }
+
+  pub turned_more : (b numbers : ℕ) (l new : List ℕ) → Turned b l → ((s : ℕ) → bit numbers s ≡ common s b)
+      → PutAt l numbers b new → Turned (b + 1) new
+  turned_more b numbers l new t is p = record {
+    size = p.size;
+    at = λ s h. upto_more (common s) b (get_or l s 0) (get_or new s 0) (bit numbers s) (t.at s h) (is s) (p.at s h);
   }
 
   pub turned_end : (i : ℕ) (l : List ℕ) → length one ≡ 64 → 64 ≤ i → Turned i l → Told 0 (BothAt one two) 64 64 l

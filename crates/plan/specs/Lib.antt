@@ -1,6 +1,6 @@
 -- What both ways share: what a call owes that reads a form and counts and its answer's numbers (Owed, trusted;
 -- Accepted), what both start from (Prepared), the plan's rows (Rows), a route's bytes (RouteWords), the numbers that
--- both answer (Totals, trusted).
+-- both answer (Totals).
 pub mod Owed
 pub mod Accepted
 pub mod Prepared

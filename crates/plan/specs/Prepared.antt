@@ -1,7 +1,7 @@
 -- What both ways start from, for any bytes, and what follows of it: what is owed where the start is a refusal, and
 -- where it is a plan. Rests on Owed, Accepted and theory's Plan.
 use Rattle.std.specs.Prelude.{◌≡◌, refl, List, ℕ, ◌<◌, Result, Ok, Err, MatchResult}
-use Rattle.std.proofs.Common.{subst, arith}
+use Rattle.std.proofs.Common.{sym, ap, subst, arith}
 use Rattle.form.specs.declared.Body.{Body}
 use Rattle.form.specs.declared.Refusal.{Refusal}
 use Rattle.form.specs.Conflict.{Sound}
@@ -15,7 +15,7 @@ use Rattle.theory.specs.Route.{step_cost}
 use Rattle.theory.specs.Plan.{Planned, PlanOf}
 use Rattle.plan.specs.Owed.{CountOf, Owed}
 use Rattle.plan.specs.Owed.Owed.{no_form, no_count, counted}
-use Rattle.plan.specs.Accepted.{CounterOwed, cost_range, no_count_owed}
+use Rattle.plan.specs.Accepted.{CounterOwed, cost_range, no_count_owed, count_owed}
 use Rattle.plan.specs.declared.Prepared.{Prepared}
 
 -- ---- any bytes
@@ -86,3 +86,13 @@ module _ (form : List ℕ) (body : Body) (e : ReadAs form (reading_of (Ok body))
       let (never, number, place) = no_count_owed form accepted r
       (subst (λ (b : Body). CounterOwed b.counter (Err r)) known o) in
       uncounted accepted never number place
+
+  -- with a count and the plan it is ready
+  pub prepared_counted : (k : ℕ) (plan : List ℕ) → CounterOwed body.counter (Ok k)
+      → Planned body (step_cost body) plan → Start form body.count k plan
+  prepared_counted k plan o p = record {
+    accepted = accepted;
+    size = sym (ap (λ (b : Body). b.count) known);
+    counts = count_owed form accepted k (subst (λ (b : Body). CounterOwed b.counter (Ok k)) known o);
+    planned = subst (λ (b : Body). Planned b (step_cost b) plan) known p;
+  }

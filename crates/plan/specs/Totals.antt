@@ -1,5 +1,4 @@
--- The numbers that both ways answer: each from the count and the weights. Trusted: definitions only. Rests on theory's
--- Route (the bound).
+-- The numbers that both ways answer: each from the count and the weights. Rests on theory's Route (the bound).
 use Rattle.std.specs.Prelude.{ℕ}
 use Rattle.theory.specs.Route.{bound_of}
 use Rattle.plan.specs.declared.Totals.{Totals}

@@ -1,7 +1,7 @@
 -- From an answer that the sweep owes, and the lines in the lent bytes, to what is printed. Rests on Report, on lines'
 -- Lines and Parts, on lent's Adding and on ways' Sweep.
-use Rattle.std.specs.Prelude.{Result, Ok, Err, List, ◌++◌, ◌≡◌, refl, ℕ, ◌+◌, ◌*◌, ◌≤◌, length, take, drop}
-use Rattle.std.proofs.Common.{append_assoc, ◌∙◌, arith}
+use Rattle.std.specs.Prelude.{Result, Ok, Err, List, ◌++◌, ◌≡◌, refl, ℕ, ◌+◌, ◌*◌, ◌-◌, ◌≤◌, length, take, drop}
+use Rattle.std.proofs.Common.{append_assoc, sym, ap, subst, ◌∙◌, arith, length-drop, length-take-le}
 use Rattle.std.proofs.Math.Seq.{take-take}
 use Rattle.std.proofs.lemmas.List.{drop-take}
 use Rattle.laws.specs.Terms.{heaviest, lightest}
@@ -26,7 +26,32 @@ use Rattle.report.specs.Report.Reported.{refused, reported}
 five_and_five : (a b c d e f : List ℕ) → (a ++ (b ++ (c ++ (d ++ e)))) ++ f ≡ a ++ (b ++ (c ++ (d ++ (e ++ f))))
 five_and_five a b c d e f = simp append_assoc
 
+shown_owed : (form lent routes : List ℕ) (answer shown : Result Routed Refusal) → OwnTableOwed form lent answer routes
+    → answer ≡ shown → OwnTableOwed form lent shown routes
+shown_owed form lent routes answer shown owed e =
+    subst (λ (x : Result Routed Refusal). OwnTableOwed form lent x routes) e owed
+
 -- the routes' bytes, parted at the number of blocks
+module _ (routes : List ℕ) (n : ℕ) (size : length routes ≡ 128) (few : n ≤ 64) where
+  pub first_part : n ≡ length (route_in heaviest n routes)
+  first_part = sym (length-take-le n routes (omega (arith, size)))
+
+  pub first_few : length (route_in heaviest n routes) ≤ 64
+  first_few = omega (arith, first_part)
+
+  pub second_part : take (2 * n - n) (drop n routes) ≡ route_in lightest n routes
+  second_part = ap (λ m. take m (drop n routes)) (twice n)
+    where
+      twice : (n : ℕ) → 2 * n - n ≡ n
+      twice n = omega arith
+
+  pub second_few : length (take (2 * n - n) (drop n routes)) ≤ 64
+  second_few = omega (
+    arith,
+    ap length second_part,
+    length-take-le n (drop n routes) (omega (arith, length-drop n routes, size)),
+  )
+
 pub parted : (routes : List ℕ) (n : ℕ)
     → (take n (take (2 * n) routes) ≡ route_in heaviest n routes)
     × (drop n (take (2 * n) routes) ≡ route_in lightest n routes)

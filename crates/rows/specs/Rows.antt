@@ -2,12 +2,13 @@
 -- the row under construction. Rests on entries' Entries and Steps.
 use Rattle.std.specs.Prelude.{◌≡◌, Bool, true, false, cond, eqb, get_or}
 use Rattle.std.proofs.Math.Path.{refl, ap}
-use Rattle.std.proofs.Common.{sym, subst, ◌∙◌, add-one}
+use Rattle.std.proofs.Common.{sym, ap₂, subst, ◌∙◌, add-one}
 use mathlib.Core.List.{List, [], ◌∷◌}
 use Rattle.std.proofs.Math.Option.{Option, none, some}
 use Prim.Native.Nat.{ℕ, suc, ◌+◌, ◌-◌, ◌^◌, ◌≤◌, ◌<◌}
-use Rattle.std.proofs.Math.Nat.{le_refl, le_trans}
-use borrow.Author.Tests.{eqb-true, eqb-false}
+use Rattle.std.proofs.Math.Nat.{le_refl, le_trans, sub-zero}
+use borrow.Author.Tests.{eqb-true, eqb-false, eq-eqb, ne_eqb}
+use Rattle.std.specs.Int.Bits.{bit_or}
 use native.Mathlib.Omega.{arith}
 use Rattle.std.proofs.Math.ListN.{length, get_or-eq_default}
 use Rattle.laws.specs.Terms.{Choice, chosen}
@@ -20,8 +21,8 @@ use Rattle.rows.specs.declared.Step.{Step}
 use Rattle.theory.specs.Plan.{cost_at, IsWay}
 use Rattle.entries.specs.declared.Entry.{Entry}
 use Rattle.entries.specs.Structs.{Both, no_entry}
-use Rattle.entries.specs.Entries.{entry_at, entries_from, keep_both, Grown, entries_length}
-use Rattle.rows.specs.Steps.{IsStep, half_of, step_key, step_both}
+use Rattle.entries.specs.Entries.{entry_at, inserted, entries_from, keep_both, Grown, entries_length}
+use Rattle.rows.specs.Steps.{IsStep, half_of, hits_of, opened_of, step_key, step_both}
 
 -- the row with an entry's longer tail, or the row where the step drops it
 abbrev pub pushed : (jumps falls : Half) (cost : ℕ) → Key × Both → List (Key × Both) → List (Key × Both)
@@ -173,12 +174,22 @@ grown_past whole old row n s z few h more = record {
     never : n ≤ 64 → ⊥
     never l = omega arith
 
+-- a step that drops the entry
+pub grown_none : (l : List Entry) (n : ℕ) → n ≤ 64 → Grown (entries_from l 0 n) l l n
+grown_none l n h = record { most = omega arith; held = λ b. refl; over = λ b. absurd (never b); rest = λ k b. refl }
+  where
+    never : 64 < n → ⊥
+    never b = omega arith
+
 -- ---- one turn of the loops
 
 module _ (jumps falls : Half) (cost : ℕ) (source : List Entry) (many : ℕ) where
   -- the tails from i on
   abbrev to_come : ℕ → List (Key × Both) → List (Key × Both)
   to_come i r = poured jumps falls cost (entries_from source i (many - i)) r
+
+  tails_begin : (r : List (Key × Both)) → poured jumps falls cost (entries_from source 0 many) r ≡ to_come 0 r
+  tails_begin r = ap (λ n. poured jumps falls cost (entries_from source 0 n) r) (sym (sub-zero many))
 
   tails_turn : (i : ℕ) → i < many → (r : List (Key × Both)) → to_come i r ≡ to_come (i + 1)
       (pushed jumps falls cost (entry_at source i) r)
@@ -201,6 +212,12 @@ module _ (jumps falls : Half) (cost : ℕ) (source : List Entry) (many : ℕ) wh
   -- the row with the tails from i on to come
   abbrev pub AtTail : (whole : List (Key × Both)) (old row : List Entry) (held i : ℕ) → Type 0
   AtTail whole old row held i = Filling (to_come i) whole old row held
+
+  pub at_first : (row : List Entry) (held : ℕ) → held ≤ 64 → length row ≡ 64 → AtTail
+      (poured jumps falls cost (entries_from source 0 many) (entries_from row 0 held)) row row held 0
+  at_first row held few size =
+      filling_same (poured jumps falls cost (entries_from source 0 many)) (to_come 0) _ row row held
+      (filling_start (poured jumps falls cost (entries_from source 0 many)) row held few size) tails_begin
 
   pub at_last : (whole : List (Key × Both)) (old row : List Entry) (held i : ℕ) → many ≤ i → AtTail whole old row held i
       → Grown whole old row held
@@ -268,3 +285,16 @@ module _ (plan : List ℕ) (b : ℕ) (tails : ℕ → List (Key × Both)) where
           ≡ length whole =
           ap length (sym (way_turn (entries_from row 0 held)) ∙ f.left) in
           omega (arith, e, left_grows plan b tails (way + 1) (poured_in (entries_from row 0 held)))
+
+-- ---- one entry
+
+module _ (jumps falls : Half) (cost : ℕ) (e : Key × Both) (r : List (Key × Both)) (j f : ℕ)
+    (j_is : j ≡ hits_of jumps e.0.0) (f_is : f ≡ hits_of falls e.0.1) where
+  pub pushed_dropped : (bit_or j f ≡ 0 → ⊥) → pushed jumps falls cost e r ≡ r
+  pushed_dropped h = rw (ne_eqb (bit_or (hits_of jumps e.0.0) (hits_of falls e.0.1)) 0
+      (λ z. h (ap₂ bit_or j_is f_is ∙ z)))
+
+  pub pushed_kept : (oj of : ℕ) (v : Both) → oj ≡ opened_of jumps e.0.0 → of ≡ opened_of falls e.0.1
+      → v ≡ step_both jumps falls cost e.1 → bit_or j f ≡ 0 → pushed jumps falls cost e r ≡ inserted ((oj, of), v) r
+  pushed_kept oj of v p q s h =
+      rw (eq-eqb (bit_or (hits_of jumps e.0.0) (hits_of falls e.0.1)) 0 (sym (ap₂ bit_or j_is f_is) ∙ h), p, q, s)

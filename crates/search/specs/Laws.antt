@@ -3,8 +3,8 @@
 use Rattle.std.specs.Prelude.{◌≡◌, refl, Bool, true, false, not, cond, ◌||◌, ◌&&◌, List, [], ◌∷◌, ◌++◌}
 use Rattle.std.specs.Prelude.{ℕ, suc, ◌+◌, ◌-◌, ◌*◌, ◌^◌, ◌<◌, ◌≤◌, eqb, ltb, Some, None}
 use Rattle.std.proofs.Common.{sym, ap, ap₂, subst, ◌∙◌, inl, inr, add-one, arith}
-use Rattle.std.proofs.Common.{ltb-true, ltb-false, lt-ltb}
-use Rattle.std.proofs.Math.Bool.{and-false}
+use Rattle.std.proofs.Common.{eq-eqb, ne_eqb, ltb-true, ltb-false, lt-ltb}
+use Rattle.std.proofs.Math.Bool.{and-false, or-false}
 use Rattle.std.proofs.Math.Option.{Option, none, some}
 use Rattle.std.specs.Int.Bits.{bit_or}
 use Rattle.std.proofs.lemmas.Nat.{or_lt}
@@ -26,7 +26,7 @@ use Rattle.theory.specs.WalkWords.{advance, finish, nothing}
 use Rattle.theory.specs.Main.{walk_answer}
 use Rattle.theory.specs.Range.{up_to, up_next, up_on}
 use Rattle.theory.specs.PlanWays.{by_way_lem, by_jump, by_fall}
-use Rattle.theory.specs.Plan.{target_at, cost_at, IsWay, Planned}
+use Rattle.theory.specs.Plan.{target_at, cost_at, IsWay, Planned, PlanOf}
 use Rattle.search.specs.declared.Found.{Found}
 use Rattle.search.specs.Terms.{kept_in, so_far, tallied, Standing, Barred, Entered, Barring, counting, walk_from}
 use Rattle.search.specs.Terms.{Walks, is_open, open_target, Took, Searched}
@@ -43,10 +43,11 @@ by_sides s r done j f k = by_way_lem (λ side. has r (k, side) ≡ done k side (
 
 -- ---- words
 
--- a set with one more number
-pub put_is : (x k r : ℕ) → x < 2 ^ 64 → r < 2 ^ 64 → k < 64 → ((j : ℕ) → bit r j ≡ (bit x j || eqb j k))
-    → r ≡ bit_or x (2 ^ k)
-put_is x k r p q h bits = ext 64 q (or_lt 64 x (2 ^ k) p (pow-lt h)) (λ j l. bits j ∙ sym (bit_with x k j))
+-- a set with one more number, where the test holds
+pub put_is : (x k r : ℕ) (t : Bool) → x < 2 ^ 64 → r < 2 ^ 64 → k < 64
+    → ((j : ℕ) → bit r j ≡ (bit x j || (t && eqb j k))) → r ≡ cond t (bit_or x (2 ^ k)) x
+put_is x k r true p q h bits = ext 64 q (or_lt 64 x (2 ^ k) p (pow-lt h)) (λ j l. bits j ∙ sym (bit_with x k j))
+put_is x k r false p q h bits = ext 64 q p (λ j l. bits j ∙ or-false (bit x j))
 
 -- ---- where a way leads
 
@@ -151,6 +152,21 @@ module _ (choice : Choice) where
       ∙ counts (ltb budget (suc found.walked)) last found.walked (kept_in choice found.best) (finish cost (b, c))
       ∙ ap (λ d. tally_by (preferred choice) (ltb budget (suc found.walked)) d (so_far choice found)
       (finish cost (b, c))) (sym l)
+
+-- ---- of the route kept, or none, and a new one
+
+module _ (choice : Choice) (any : ℕ) (held v : Words) where
+  abbrev Keeps : Words → Type 0
+  Keeps r = some r ≡ keep_first (preferred choice) (cond (eqb any 1) (some held) none) v
+
+  pub keeps_old : {better : Bool} → any ≡ 1 → better ≡ preferred choice v.0 held.0 → better ≡ false → Keeps held
+  keeps_old e is worse = rw (eq-eqb any 1 e, sym is ∙ worse)
+
+  pub keeps_new : {better : Bool} → any ≡ 1 → better ≡ preferred choice v.0 held.0 → better ≡ true → Keeps v
+  keeps_new e is better = rw (eq-eqb any 1 e, sym is ∙ better)
+
+  pub keeps_first : (any ≡ 1 → ⊥) → Keeps v
+  keeps_first d = rw (ne_eqb any 1 d)
 
 -- ---- the turn
 
@@ -288,7 +304,13 @@ walks_last choice plan count budget b last s c found r v body cost p g size bars
     same = λ i. tally_by (preferred choice) (ltb budget (suc found.walked)) (eqb (suc b) (sym size i))
         (so_far choice found) (c.0 + p.costs b 0 own i, c.1)
 
--- what a way comes to, from where the code has it lead
+-- what a way comes to, from the test of the code and its call
+pub open_is : (plan : List ℕ) (b way : ℕ) (here : Key) (walked budget : ℕ) {target : ℕ} {banned o : Bool}
+    → target ≡ target_at plan b way → has here (b, way) ≡ banned
+    → o ≡ is_open target banned walked budget → is_open (target_at plan b way) (has here (b, way)) walked budget ≡ o
+open_is plan b way here walked budget is edge test = (λ i. is_open (sym is i) (edge i) walked budget) ∙ sym test
+
+-- and from where the code has it lead
 module _ (plan : List ℕ) (b way : ℕ) (here : Key) (walked budget : ℕ) {edge : Bool}
     (is : has here (b, way) ≡ edge) where
   abbrev Opens : Bool → Type 0
@@ -370,7 +392,24 @@ module _ {plan : List ℕ} {count budget b weight before : ℕ} (s : Standing pl
         record { of = s.of; inside = omega arith; small = omega arith; counted = left; fits = s.fits },
       )
 
+  -- the last block has no way on
+  pub took_none : {choice : Choice} (way : ℕ) → IsWay way → (here : Key) (c : Words) (found : Found)
+      → b + 1 ≡ count → Took choice plan count budget b way here c found found
+  took_none way w here c found last =
+      stays (is_false (is_open (target_at plan b way) (has here (b, way)) found.walked budget)
+      (λ o. let (above, inside, left) = open_leads way w (has here (b, way)) found.walked o in omega arith)) refl
+
 -- ---- from block 0 on
+
+pub standing_first : (plan : List ℕ) (count budget : ℕ) → PlanOf plan count → budget < 4294967296
+    → Standing plan count budget 0 0 0
+standing_first plan count budget of fits = record {
+  of = of;
+  inside = omega (arith, of.sound.some, of.size);
+  small = omega arith;
+  counted = omega arith;
+  fits = fits;
+}
 
 -- nothing is banned, carried or found before it
 pub searched : (choice : Choice) (plan : List ℕ) (count budget : ℕ) (s : Key) (c : Words) (found r : Found)

@@ -370,10 +370,23 @@ module _ {plan : List ℕ} {lent table : List Entry} {lengths : List ℕ} {count
         → cost_at plan at way + weight_at choice table (64 * t + i) < 2 ^ 64
     light_here = turn_light body g cost range plan fits p lent table lengths at kept inside lengths_of down
 
+    inside_here : (t i : ℕ) → i < get_or lengths t 0 → 64 * t + i < length table
+    inside_here t i h = omega (
+      arith,
+      (some_row body g cost range plan fits p lent table lengths at kept inside lengths_of down t i h).1,
+      w.sizes.few t,
+      w.same,
+      room,
+      e,
+    )
+
     target_here : (way : ℕ) → IsWay way → target_at plan at way < 64 → target_at plan at way < body.count
     target_here = target_inside body g cost range plan fits p lent table lengths at kept inside lengths_of down
 
-  count_few : count ≤ 64
+  pub sweeping_inside : (t i : ℕ) → i < get_or lengths t 0 → 64 * t + i < length table
+  sweeping_inside = inside_here of.body of.cost of.planned of.sound of.size
+
+  pub count_few : count ≤ 64
   count_few = omega (arith, of.sound.few, of.size)
 
   pub turn_ready : TurnReady plan table lengths at

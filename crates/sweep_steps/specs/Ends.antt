@@ -3,7 +3,7 @@
 -- Rests on Answer, Drive, plan's Prepared and theory's WalkWords.
 use Rattle.std.proofs.Math.Path.{◌≡◌, sym, ap}
 use Rattle.std.specs.Prelude.{refl, Bool, true, false, cond, ℕ, ◌*◌, ◌≤◌, ◌<◌, eqb, ltb, length, get_or, drop, Result, Ok, Err, ⊤}
-use Rattle.std.proofs.Common.{ap₂, subst, ◌∙◌, zero-add, arith, lt-ltb, le-ltb, ltb-true, ltb-false}
+use Rattle.std.proofs.Common.{ap₂, subst, ◌∙◌, zero-add, arith, lt-ltb, le-ltb, eq-eqb, ne_eqb, ltb-true, ltb-false}
 use mathlib.Core.List.{List, [], ◌∷◌, ◌++◌}
 use Rattle.std.proofs.Math.Option.{Option, none, some}
 use Rattle.std.proofs.lemmas.List.{length-map}
@@ -76,6 +76,17 @@ abbrev pub answer_of : (count iterations : ℕ) → Rows → Entry → (route : 
 answer_of count iterations rows e route =
     cond (eqb (get_or rows.lengths 0 0) 0) (Err no_route, route)
     (Ok (routed_by iterations rows.kept e), bytes_by count e route)
+
+module _ (count iterations : ℕ) (rows : Rows) (way : Entry) (route : List ℕ) where
+  pub answer_none : {r : Result Routed Refusal} → get_or rows.lengths 0 0 ≡ 0 → r ≡ Err no_route
+      → ◌≡◌ {A = Result Routed Refusal × List ℕ} (r, route) (answer_of count iterations rows way route)
+  answer_none e p = rw (eq-eqb (get_or rows.lengths 0 0) 0 e) (λ i. (p i, route))
+
+  pub answer_some : {held : List ℕ} → (get_or rows.lengths 0 0 ≡ 0 → ⊥) → held ≡ bytes_by count way route
+      → ◌≡◌ {A = Result Routed Refusal × List ℕ} (Ok (routed_by iterations rows.kept way), held)
+      (answer_of count iterations rows way route)
+  answer_some d p = rw (ne_eqb (get_or rows.lengths 0 0) 0 d)
+      (λ i. (Ok (routed_by iterations rows.kept way), p i))
 
 -- the weight of the choice in an entry
 abbrev pub first_weight : Choice → Entry → ℕ

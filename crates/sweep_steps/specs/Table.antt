@@ -15,7 +15,7 @@ use Rattle.theory.specs.Row as theory
 use Rattle.theory.specs.Row.{Key, filled}
 use Rattle.theory.specs.SweepWords as words
 use Rattle.entries.specs.declared.Entry.{Entry}
-use Rattle.entries.specs.Structs.{Both}
+use Rattle.entries.specs.Structs.{Both, struct_of}
 use Rattle.entries.specs.Entries.{entry_at, entries_from, entries_length}
 use Rattle.rows.specs.Sides.{side_row}
 use Rattle.sweep_steps.specs.Answer.{side_by_side, no_entry, table_with}
@@ -55,14 +55,6 @@ module _ {A : Type 0} (z : A) (d s : List A) (at n : ℕ) (room : at + n ≤ len
       past k h = omega arith
 
 -- ---- a row as document 01 has it
-
-abbrev struct_of : Key × Both → Entry
-struct_of e = record {
-  jumps = e.0.0;
-  falls = e.0.1;
-  heaviest = record { weight = e.1.0.0; jumped = e.1.0.1.0; fallen = e.1.0.1.1 };
-  lightest = record { weight = e.1.1.0; jumped = e.1.1.1.0; fallen = e.1.1.1.1 };
-}
 
 struct_in : (row : List Entry) (i n k : ℕ) → k < n → get_or (map struct_of (entries_from row i n)) k no_entry
     ≡ get_or row (i + k) no_entry

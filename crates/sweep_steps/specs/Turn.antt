@@ -1,18 +1,20 @@
 -- One block's turn. A row made, on the words of a plan, of the rows of its targets is on each side the row by
 -- definition (`row_is`); made of those rows as they are fetched from the table, it is the row from the table
 -- (`turn_made`). Rests on Table, on rows' Rows, Steps and Begun, and on theory's sweep_turn and entry_fits.
-use Rattle.std.specs.Prelude.{◌≡◌, Bool, true, false, cond, eqb, ltb, length, get_or, take, drop}
+use Rattle.std.specs.Prelude.{◌≡◌, Bool, true, false, cond, eqb, ltb, length, get_or, set, replicate, take, drop}
 use Rattle.std.proofs.Math.Path.{refl, ap, ap₂, subst}
 use Rattle.std.proofs.Common.{sym, ◌∙◌, inl, inr, zero-add, ltb-true, ltb-false, length-take-le, length-drop, get_or-take, get_or-drop}
 use mathlib.Core.List.{List, [], ◌∷◌, ◌++◌, append-nil}
 use Rattle.std.proofs.Math.Option.{Option}
 use Prim.Native.Nat.{ℕ, suc, ◌+◌, ◌*◌, ◌-◌, ◌^◌, ◌≤◌, ◌<◌}
+use borrow.Author.Tests.{eqb-true, eqb-false}
 use native.Mathlib.Omega.{arith}
 use Rattle.std.proofs.Math.ListN.{get_or-eq_default}
-use Rattle.std.proofs.Math.Seq.{paste}
+use Rattle.std.proofs.Math.Seq.{paste, get_or-set_same, get_or-set_other}
 use Rattle.std.specs.declared.ops.Range as ops
 use Rattle.laws.specs.Terms.{Choice, Mem, chosen, preferred}
 use Rattle.laws.specs.Orders.{preference}
+use Rattle.laws.specs.Tests.{split}
 use Rattle.laws.specs.Lists.{mem_left, mem_right}
 use Rattle.form.specs.declared.Body.{Body}
 use Rattle.form.specs.Conflict.{Sound, exits, conflicts}
@@ -144,6 +146,22 @@ module _ (choice : Choice) (body : Body) (g : Sound body) (cost : ℕ → ℕ �
         ∙ ap (λ c. filling (exits body b) (cond (eqb (suc b) body.count) ((no_edges, (c, (0, 0))) ∷ []) []))
         (planned.costs b 0 inside)
         ∙ sweep_turn body g cost (preferred choice) (preference choice) rows b inside above
+
+-- ---- words that are cleared
+
+-- one more is zero, and those before it are
+pub zeros_more : (l : List ℕ) (k : ℕ) → k < length l → ((j : ℕ) → j < k → get_or l j 0 ≡ 0) → (j : ℕ) → j < suc k
+    → get_or (set l k 0) j 0 ≡ 0
+zeros_more l k inside zeros j h = split (eqb j k)
+    (λ q. let e = eqb-true j k q in ap (λ i. get_or (set l k 0) i 0) e ∙ get_or-set_same l k 0 0 inside)
+    (λ q. get_or-set_other l k j 0 0 (eqb-false j k q) ∙ zeros j (omega (arith, eqb-false j k q)))
+
+pub zeros_all : (l : List ℕ) (n : ℕ) → length l ≡ n → ((j : ℕ) → j < n → get_or l j 0 ≡ 0) → l ≡ replicate n 0
+zeros_all l n size zeros = subst (λ (m : ℕ). l ≡ replicate m 0) size (all l (λ j h. zeros j (omega (arith, size))))
+  where
+    all : (l : List ℕ) → ((j : ℕ) → j < length l → get_or l j 0 ≡ 0) → l ≡ replicate (length l) 0
+    all [] zeros = refl
+    all (x ∷ l) zeros = λ i. zeros 0 (omega arith) i ∷ all l (λ j h. zeros (suc j) (omega arith)) i
 
 -- ---- what the rows in the table make
 

@@ -3,7 +3,7 @@
 // sweep puts these steps together over the lent table.
 #![tactic(auto)]
 
-ghost use Rattle.std.specs.Prelude.{◌≡◌, ◌*◌, ◌<◌, ◌≤◌, length, get_or, OnOk, OnErr, IfErr};
+ghost use Rattle.std.specs.Prelude.{◌≡◌, min, ◌*◌, ◌<◌, ◌≤◌, length, get_or, OnOk, OnErr, IfErr};
 ghost use Rattle.laws.specs.Terms.{Choice};
 ghost use Rattle.theory.specs.Plan.{target_at, cost_limit};
 ghost use Rattle.rows.specs.Rows.{Ready, tails_by, left_from};
@@ -36,6 +36,13 @@ pub fn check_room(count: usize, bytes: usize, entries: usize) -> Result<(), Refu
         });
     }
     Ok(())
+}
+
+// The lesser.
+pub fn lesser(a: usize, b: usize) -> usize
+    ensures { result ≡ min a b }
+{
+    if a < b { a } else { b }
 }
 
 // The row of block b from the entries of its targets' rows, in the place of whatever was made before; how many entries

@@ -88,11 +88,11 @@ module _ (body : Body) (cost : ℕ → ℕ → ℕ) (budget : ℕ) (found : Foun
     enough : ltb (length lent) (2 * body.count) ≡ false
     enough = le-ltb (length lent) (2 * body.count) (omega arith)
 
-    over_budget : budget < found.walked
+    pub over_budget : budget < found.walked
         → refused lent 41 budget ≡ walk_outcome body (sides_by cost) budget lent count
     over_budget l = rw (enough, sym (ends heaviest).0 ∙ lt-ltb budget found.walked l)
 
-    without_route : found.walked ≤ budget → found.best ≡ None
+    pub without_route : found.walked ≤ budget → found.best ≡ None
         → refused lent 43 0 ≡ walk_outcome body (sides_by cost) budget lent count
     without_route l e =
         let f = le-ltb budget found.walked l in
@@ -106,7 +106,7 @@ module _ (body : Body) (cost : ℕ → ℕ → ℕ) (budget : ℕ) (found : Foun
         (λ i. bytes_of (sym size i) (w i).1.0 (w i).1.1)
         ∙ sym (bytes_words body g.onward v.1 (best_leads body cost (preferred choice) v e).0)
 
-    with_route : Sound body → found.walked ≤ budget → (best : Best) → found.best ≡ Some best → (held : List ℕ)
+    pub with_route : Sound body → found.walked ≤ budget → (best : Best) → found.best ≡ Some best → (held : List ℕ)
         → held ≡ both_bytes n best lent
         → ◌≡◌ {A = Outcome} (routed_answer count found best, held) (walk_outcome body (sides_by cost) budget lent count)
     with_route g l best is held h =
@@ -121,14 +121,14 @@ module _ (body : Body) (cost : ℕ → ℕ → ℕ) (budget : ℕ) (found : Foun
           (h ∙ λ j. heavy j ++ (light j ++ drop (2 * sym size j) lent)) i,
         ))
 
-short : (body : Body) (sides : Choice → Side) (n : ℕ) → body.count ≡ n → (budget : ℕ) (lent : List ℕ) (count : ℕ)
+pub short : (body : Body) (sides : Choice → Side) (n : ℕ) → body.count ≡ n → (budget : ℕ) (lent : List ℕ) (count : ℕ)
     → length lent < 2 * n → refused lent 42 (2 * n) ≡ walk_outcome body sides budget lent count
 short body sides n size budget lent count l =
     ap (λ (m : ℕ). refused lent 42 (2 * m)) (sym size)
     ∙ rw (lt-ltb (length lent) (2 * body.count) (omega arith))
 
 -- no route weighs more than all blocks may
-weight_few : (choice : Choice) (plan : List ℕ) (count budget : ℕ) (found : Found) → PlanOf plan count
+pub weight_few : (choice : Choice) (plan : List ℕ) (count budget : ℕ) (found : Found) → PlanOf plan count
     → ((choice : Choice) → Searched choice plan count budget found) → found.walked ≤ budget
     → (best : Best) → found.best ≡ Some best → (way_in choice best).0 ≤ cost_limit
 weight_few choice plan count budget found p s l best is =

@@ -1,6 +1,6 @@
 -- Loops that fill a word bit by bit, and a list place by place: where the loop stands, its start,
 -- its turn and its end. Rests on Sets.
-use Rattle.std.specs.Prelude.{◌≡◌, refl, ◌⊎◌, Bool, true, false, ◌&&◌, ◌||◌, List, map, ℕ, zero, suc, ◌+◌, ◌*◌, ◌^◌, ◌≤◌, ◌<◌, eqb, ltb, length, get_or, set, replicate}
+use Rattle.std.specs.Prelude.{◌≡◌, refl, ◌⊎◌, Bool, true, false, ◌&&◌, ◌||◌, List, map, ℕ, zero, suc, ◌+◌, ◌-◌, ◌*◌, ◌^◌, ◌≤◌, ◌<◌, eqb, ltb, length, get_or, set, replicate}
 use Rattle.std.proofs.Math.Path.{sym, ap}
 use Rattle.std.proofs.Common.{◌∙◌, subst, inl, inr, zero-add, pow-suc, add-one, arith, eqb-true, ltb-true, ltb-false, lt-ltb, le-ltb, Fits, length-set, get_or-set_same, get_or-set_other, ext_get_or}
 use Rattle.std.proofs.Math.Bool.{and-true, and-false, or-false, or_assoc}
@@ -112,16 +112,34 @@ module _ {A : Type 0} (z : A) (P : ℕ → A → Type 0) (n : ℕ) where
 
 -- ---- places of arrays: cited where the context is too large to look through
 
+pub in_room : {m n i : ℕ} → m ≡ n → i < n → i < m
+in_room size h = omega arith
+
 -- a place's distance in bytes fits a word
 pub fits_8 : {i : ℕ} → i < 256 → Fits w64 (i * 8)
 fits_8 h = omega arith
 
+pub fits_4 : {i : ℕ} → i < 256 → Fits w64 (i * 4)
+fits_4 h = omega arith
+
 pub below_256 : {i : ℕ} → i < 64 → i < 256
 below_256 h = omega arith
 
--- the next place
+pub fits_small : {n : ℕ} → n ≤ 256 → Fits w64 n
+fits_small h = omega arith
+
+pub fits_byte : {n : ℕ} → n < 256 → Fits w64 n
+fits_byte h = omega arith
+
+-- the next place, and what is left after it
+pub fits_next : {i : ℕ} → i < 256 → Fits w64 (i + 1)
+fits_next h = omega arith
+
 pub next_within : {n i : ℕ} → i < n → i + 1 ≤ n
 next_within h = omega arith
+
+pub less_left : (n : ℕ) {i : ℕ} → i < n → n - (i + 1) < n - i
+less_left n h = omega arith
 
 -- ---- a list that is told whole
 
