@@ -426,6 +426,7 @@ fn refused_room(rt: &impl Print) -> io::Result<()> {
     )
 }
 
+// Every case, up to the first that cannot be printed; to `Output` each can.
 fn all(rt: &impl Print) -> io::Result<()> {
     counts(rt)?;
     trainers_cases(rt)?;

@@ -1,5 +1,5 @@
-// The standard output as the cases print to it: by crate io, piece by piece. What cannot be written is passed over, so
-// that a case more or less printed changes neither the status nor the standard error.
+// The standard output as the cases print to it, by the kit's io. What cannot be written is passed over: no call fails,
+// and neither the status nor the standard error tells of it.
 use io::write_all;
 use std::fmt::{self, Display, Write};
 use std::io::Result;

@@ -14,7 +14,7 @@ use form::Refusal;
 use sweep_steps::Routed;
 use walk::Walked;
 
-mod numbered;
+pub mod numbered;
 
 pub use numbered::{Told, of_counted, of_listed, of_sweep, of_verdict, of_walk, of_written};
 

@@ -38,7 +38,7 @@ pub fn check_room(count: usize, bytes: usize, entries: usize) -> Result<(), Refu
     Ok(())
 }
 
-// The lesser.
+// (a) std's `min`, by a name that docs/PROMISES.md has always had; nothing here asks it.
 pub fn lesser(a: usize, b: usize) -> usize
     ensures { result ≡ min a b }
 {
